@@ -1,0 +1,12 @@
+-- Every starred number of document 01 holds: the test computes.
+-- Assumes nothing.
+use mathlib.Core.Path.{refl}
+use Rattle.le.specs.Word.{word, bytes}
+use Rattle.le.specs.Sum.{total, totalOf, sum}
+use Rattle.frame.specs.Layout.{headerBytes}
+use Rattle.frame.specs.Writing.{countOf, counted, written}
+use Rattle.cases.specs.Cases.{same, isCount, isLength, holds, allHold, starred, StarredHold}
+
+pub starred-hold : StarredHold
+unfolding word bytes total totalOf sum headerBytes countOf counted written same isCount isLength holds allHold starred
+starred-hold = refl

@@ -1,0 +1,88 @@
+-- Document 01, "Numbers to check by": the starred numbers, as one table and one statement over it. Each row is a question to the
+-- definitions that the code is proved to meet, and the answer that the document gives.
+-- Assumes nothing.
+use Prim.Native.Nat.{ℕ, zero, suc, _+_}
+use mathlib.Core.Bool.{Bool, true, false, _&&_}
+use mathlib.Core.Path.{_≡_}
+use mathlib.Core.List.{List, [], _∷_}
+use lib.Dec.{eqb}
+use lib.ListN.{length, take, replicate}
+use Rattle.le.specs.Sum.{sum}
+use Rattle.frame.specs.Writing.{counted, frameAt, written, landed}
+use Rattle.frame.specs.declared.Envelope.{Envelope}
+use Rattle.frame.specs.declared.write.Counted.{Counted}
+use Rattle.frame.specs.declared.write.Counted.the-variants.{Frames, Refused as NoCount}
+use Rattle.frame.specs.declared.write.Written.{Written}
+use Rattle.frame.specs.declared.write.Written.the-variants.{Frame, Refused as NoFrame}
+
+-- a question, with its answer last
+pub data Case : Type 0 where
+  -- the 32-bit sum of these bytes
+  sums : List ℕ → ℕ → Case
+  -- how many frames a message of this length makes in pieces of this size
+  counts : ℕ → ℕ → ℕ → Case
+  -- how long the frame of this Index is, written to an empty output of 256 bytes
+  frames : Envelope → List ℕ → ℕ → ℕ → ℕ → Case
+  -- the first bytes of that output
+  writes : Envelope → List ℕ → ℕ → ℕ → List ℕ → Case
+
+-- the same list of numbers
+unfoldable pub same : List ℕ → List ℕ → Bool
+same [] [] = true
+same [] (y ∷ ys) = false
+same (x ∷ xs) [] = false
+same (x ∷ xs) (y ∷ ys) = eqb x y && same xs ys
+
+unfoldable pub isCount : Counted → ℕ → Bool
+isCount (Frames n) expected = eqb n expected
+isCount (NoCount reason) expected = false
+
+unfoldable pub isLength : Written → ℕ → Bool
+isLength (Frame n) expected = eqb n expected
+isLength (NoFrame reason) expected = false
+
+-- an output of 256 zero bytes
+abbrev pub output : List ℕ
+output = replicate 256 0
+
+unfoldable pub holds : Case → Bool
+unfolding same isCount isLength
+holds (sums s expected) = eqb (sum 4 s) expected
+holds (counts length size expected) = isCount (counted length size) expected
+holds (frames e message size index expected) = isLength (written e message size index output) expected
+holds (writes e message size index expected) =
+    same (take (length expected) (landed (written e message size index output) (frameAt e message size index) output)) expected
+
+unfoldable pub allHold : List Case → Bool
+unfolding holds
+allHold [] = true
+allHold (c ∷ cs) = holds c && allHold cs
+
+-- Message ID 0x01020304, sender 10, receiver 11, word 0xFFFFFFFF; data 01 to 05
+pub envelope : Envelope
+envelope = record { id = 0x01020304; sender = 10; receiver = 11; status = 0xFFFFFFFF }
+
+pub message : List ℕ
+message = 1 ∷ 2 ∷ 3 ∷ 4 ∷ 5 ∷ []
+
+unfoldable pub starred : List Case
+unfolding envelope message
+starred =
+    -- piece 2: three frames of 26, 26, 25 bytes
+    counts 5 2 3
+    ∷ frames envelope message 2 0 26
+    ∷ frames envelope message 2 1 26
+    ∷ frames envelope message 2 2 25
+    -- the first is 11 00 00 00 04 03 02 01 0A 00 00 00 0B 00 00 00 FF FF FF FF 05 00 00 00 01 02
+    ∷ writes envelope message 2 0
+    (0x11 ∷ 0 ∷ 0 ∷ 0 ∷ 4 ∷ 3 ∷ 2 ∷ 1 ∷ 10 ∷ 0 ∷ 0 ∷ 0 ∷ 11 ∷ 0 ∷ 0 ∷ 0 ∷ 0xFF ∷ 0xFF ∷ 0xFF ∷ 0xFF ∷ 5 ∷ 0 ∷ 0 ∷ 0 ∷ 1 ∷ 2 ∷ [])
+    -- 4,096 bytes at 232: 18 frames, the last with 152
+    ∷ counts 4096 232 18
+    ∷ frames envelope (replicate 4096 7) 232 17 (24 + 152)
+    -- used bytes 01 00 00 00 FF sum to 0x100
+    ∷ sums (1 ∷ 0 ∷ 0 ∷ 0 ∷ 0xFF ∷ []) 0x100
+    ∷ []
+
+-- the one statement: every starred number holds
+abbrev pub StarredHold : Type 0
+StarredHold = allHold starred ≡ true

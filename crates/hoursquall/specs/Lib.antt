@@ -1,0 +1,2 @@
+-- How the answers of the crates are handed out as numbers.
+pub mod Frame

@@ -1,0 +1,85 @@
+-- The laws of sums of k-byte words, each once, for every width k that is not 0.
+--     total-step     the sum of all words is the first word and the sum of the rest
+--     turn           what one turn of a summing loop keeps: the sum so far and the sum of the rest are the sum of all
+--     passed         and what the loop has in the end
+--     sum-append     the sum of two joined lists, joined at a word's end
+--     sum-replace    the sum after one aligned word is replaced by another
+-- Assumes nothing.
+use Prim.Native.Nat.{ℕ, zero, suc, _+_, _*_, _-_, _%_, _^_, _≤_, _<_}
+use mathlib.Core.Path.{_≡_, refl, sym, ap, _∙_}
+use mathlib.Core.List.{List, [], _∷_, _++_}
+use native.Mathlib.Nat.{add-mod, mod-add-mod, mod-eq-of-lt, add-assoc, add-zero, suc-mul}
+use native.Mathlib.Omega.{arith}
+use lib.ListN.{length, drop, length-drop, length-append, drop-of-length-le}
+use lib.Seq.{drop-nil, drop-drop, drop-append-le, drop-at}
+use Rattle.le.specs.Word.{word}
+use Rattle.le.specs.Sum.{total, totalOf, sum}
+use Rattle.le.proofs.Words.{word-nil, word-append}
+
+total-nil : (k n : ℕ) → total k n [] ≡ 0
+unfolding total
+total-nil k zero = refl
+total-nil k (suc n) = rw (word-nil, drop-nil, total-nil k n)
+
+empty : (s : List ℕ) → length s ≤ 0 → s ≡ []
+empty [] h = refl
+empty (b ∷ s) h = absurd (omega arith)
+
+-- as many words as there are bytes are enough, and more change nothing
+enough : (k n m : ℕ) (s : List ℕ) → 0 < k → length s ≤ n → length s ≤ m → total k n s ≡ total k m s
+unfolding total
+enough k zero m s p hn hm = rw (empty s hn, total-nil k m)
+enough k (suc n) zero s p hn hm = rw (empty s hm, word-nil, drop-nil, total-nil k n)
+enough k (suc n) (suc m) s p hn hm =
+    rw (enough k n m (drop k s) p (simp length-drop (omega arith)) (simp length-drop (omega arith)))
+
+pub total-none : (k : ℕ) → totalOf k [] ≡ 0
+unfolding totalOf
+total-none k = total-nil k 0
+
+pub total-step : (k : ℕ) (s : List ℕ) → 0 < k → totalOf k s ≡ word k s + totalOf k (drop k s)
+unfolding totalOf total
+total-step k [] p = rw (word-nil, drop-nil, total-nil k 0)
+total-step k (b ∷ s) p =
+    ap (λ (t : ℕ). word k (b ∷ s) + t)
+    (enough k (length s) (length (drop k (b ∷ s))) (drop k (b ∷ s)) p (simp length-drop (omega arith)) (omega arith))
+
+pub turn : (k at so-far next all : ℕ) (s : List ℕ) → 0 < k
+    → (so-far + totalOf k (drop at s)) % 256 ^ k ≡ all
+    → next ≡ (so-far + word k (drop at s)) % 256 ^ k
+    → (next + totalOf k (drop (at + k) s)) % 256 ^ k ≡ all
+turn k at so-far next all s p before e =
+    rw (e, mod-add-mod, add-assoc, ← drop-drop k at s, ← total-step k (drop at s) p) before
+
+-- what a summing loop has in the end: no words are left, so the sum so far is the sum
+pub passed : (k at so-far : ℕ) (s : List ℕ) → length s ≤ at → so-far < 256 ^ k
+    → (so-far + totalOf k (drop at s)) % 256 ^ k ≡ totalOf k s % 256 ^ k
+    → so-far ≡ sum k s
+unfolding sum
+passed k at so-far s end fits e =
+    let none : so-far % 256 ^ k ≡ totalOf k s % 256 ^ k = simp (drop-of-length-le s {i = at} end, total-none k, add-zero) at e in
+    rw (mod-eq-of-lt fits) at none
+
+total-append : (k n : ℕ) (s t : List ℕ) → 0 < k → length s ≡ n * k → totalOf k (s ++ t) ≡ totalOf k s + totalOf k t
+total-append k zero s t p h = rw (empty s (omega arith), total-none) (omega arith)
+total-append k (suc n) s t p h =
+    let long : length s ≡ n * k + k = rw suc-mul at h in
+    let first : k ≤ length s = omega arith in
+    let rest = total-append k n (drop k s) t p (simp length-drop (omega arith)) in
+    rw (total-step k (s ++ t) p, total-step k s p, word-append k s t first, drop-append-le k s t first, rest) (omega arith)
+
+pub sum-append : (k n : ℕ) (s t : List ℕ) → 0 < k → length s ≡ n * k → sum k (s ++ t) ≡ (sum k s + sum k t) % 256 ^ k
+unfolding sum
+sum-append k n s t p h = rw (total-append k n s t p h) (add-mod (totalOf k s) (totalOf k t) (256 ^ k))
+
+-- the sum of a list with the word v in it, at a word's place
+sum-around : (k n : ℕ) (s v t : List ℕ) → 0 < k → length s ≡ n * k → length v ≡ k → totalOf k (s ++ (v ++ t)) ≡ totalOf k s + (word k v + totalOf k t)
+sum-around k n s v t p h hv =
+    rw (total-append k n s (v ++ t) p h, total-step k (v ++ t) p, word-append k v t (omega arith), drop-at v t k hv)
+
+pub sum-replace : (k n : ℕ) (s v w t : List ℕ) → 0 < k → length s ≡ n * k → length v ≡ k → length w ≡ k
+    → (sum k (s ++ (w ++ t)) + word k v) % 256 ^ k ≡ (sum k (s ++ (v ++ t)) + word k w) % 256 ^ k
+unfolding sum
+sum-replace k n s v w t p h hv hw =
+    rw (mod-add-mod _ _ (word k v), mod-add-mod _ _ (word k w), sum-around k n s w t p h hw, sum-around k n s v t p h hv)
+    (ap (λ (x : ℕ). x % 256 ^ k) (omega arith))

@@ -1,0 +1,86 @@
+-- The laws of little-endian words, each once, for every width.
+--     word-split     a word of j + k bytes is its low j bytes and its high k bytes
+--     word-places    a word is its bytes, each by the weight of its place
+--     word-append    a word within the first of two joined lists
+--     word-one       a word of one byte is the byte
+--     byte-at        the same at a place of a list
+--     word-below     a word of k bytes is below 256 ^ k
+--     word-bytes     the word of a number's bytes is the number
+--     bytes-word     the bytes of a word are the bytes that it was read from
+--     length-bytes   a number's k bytes are k bytes
+-- Assumes nothing.
+use Prim.Native.Nat.{ℕ, zero, suc, _+_, _*_, _/_, _%_, _^_, _≤_, _<_}
+use mathlib.Core.Path.{_≡_, refl, ap}
+use mathlib.Core.List.{List, [], _∷_, _++_}
+use native.Mathlib.Nat.{pow-succ', mul-assoc, mul-comm, add-mul, add-zero, zero-add, suc-add}
+use native.Mathlib.Omega.{arith}
+use lib.ListN.{length, take, drop, getD}
+use lib.Seq.{getD-drop}
+use Rattle.le.specs.Word.{word, bytes, AreBytes}
+
+pub word-nil : (k : ℕ) → word k [] ≡ 0
+unfolding word
+word-nil zero = refl
+word-nil (suc k) = refl
+
+pub word-split : (j k : ℕ) (s : List ℕ) → word (j + k) s ≡ word j s + 256 ^ j * word k (drop j s)
+unfolding word
+word-split zero k s = rw (zero-add k) (omega arith)
+word-split (suc j) k [] = rw (suc-add, word-nil k) (omega arith)
+word-split (suc j) k (b ∷ s) = rw (suc-add, word-split j k s, pow-succ', mul-assoc) (omega arith)
+
+-- the sum of k places, the first of weight p, each next one of 256 times the weight
+abbrev places : ℕ → ℕ → (ℕ → ℕ) → ℕ
+places zero p f = 0
+places (suc k) p f = f 0 * p + places k (p * 256) (λ i. f (suc i))
+
+weighed : (k p : ℕ) (s : List ℕ) → word k s * p ≡ places k p (λ i. getD s i 0)
+unfolding word
+weighed zero p s = omega arith
+weighed (suc k) p [] = rw (← weighed k (p * 256) [], word-nil k) (omega arith)
+weighed (suc k) p (b ∷ s) =
+    let scaled : 256 * word k s * p ≡ word k s * (p * 256) = simp (mul-assoc, mul-comm) in
+    rw (← weighed k (p * 256) s, add-mul b (256 * word k s) p, scaled)
+
+pub word-places : (k : ℕ) (s : List ℕ) → word k s ≡ places k 1 (λ i. getD s i 0)
+word-places k s = rw (← weighed k 1 s) (omega arith)
+
+pub word-append : (k : ℕ) (s t : List ℕ) → k ≤ length s → word k (s ++ t) ≡ word k s
+unfolding word
+word-append zero s t l = refl
+word-append (suc k) [] t l = absurd (omega arith)
+word-append (suc k) (b ∷ s) t l = rw (word-append k s t (omega arith))
+
+pub word-one : (s : List ℕ) → word 1 s ≡ getD s 0 0
+unfolding word
+word-one [] = refl
+word-one (b ∷ s) = omega arith
+
+pub byte-at : (s : List ℕ) (at : ℕ) → word 1 (drop at s) ≡ getD s at 0
+byte-at s at = rw (word-one (drop at s), getD-drop at s 0 0, add-zero)
+
+pub word-below : (k : ℕ) (s : List ℕ) → AreBytes s → word k s < 256 ^ k
+unfolding word
+word-below zero s h = omega arith
+word-below (suc k) [] h = omega (arith, word-below k [] h, word-nil k)
+word-below (suc k) (b ∷ s) h = omega (arith, h 0, word-below k s (λ i. h (suc i)))
+
+pub word-bytes : (k n : ℕ) (rest : List ℕ) → n < 256 ^ k → word k (bytes k n ++ rest) ≡ n
+unfolding word bytes
+word-bytes zero n rest h = omega arith
+word-bytes (suc k) n rest h = rw (word-bytes k (n / 256) rest (omega arith)) (omega arith)
+
+pub bytes-word : (k : ℕ) (s : List ℕ) → AreBytes s → k ≤ length s → bytes k (word k s) ≡ take k s
+unfolding word bytes
+bytes-word zero s h l = refl
+bytes-word (suc k) [] h l = absurd (omega arith)
+bytes-word (suc k) (b ∷ s) h l =
+    let byte = h 0 in
+    let low : (b + 256 * word k s) % 256 ≡ b = omega arith in
+    let high : (b + 256 * word k s) / 256 ≡ word k s = omega arith in
+    rw (low, high, bytes-word k s (λ i. h (suc i)) (omega arith))
+
+pub length-bytes : (k n : ℕ) → length (bytes k n) ≡ k
+unfolding bytes
+length-bytes zero n = refl
+length-bytes (suc k) n = ap suc (length-bytes k (n / 256))

@@ -1,0 +1,80 @@
+-- `le::copy` meets its contract. The loop's invariant: the first `i` elements are copied, and the rest is as it was.
+-- Assumes nothing.
+use Prim.Native.Nat.{_-_, _≤_}
+use mathlib.Core.Path.{_≡_, _∙_}
+use mathlib.Core.List.{_++_}
+use lib.ListN.{length, take, drop, length-set}
+use Rattle.le.proofs.Copying.{copy-suc, copy-all}
+use native.Mathlib.Omega.{arith}
+use borrow.Author.Needs.{needs}
+use Rattle.le.proofs.copy.Statement.{statement}
+use Rattle.le.proofs.copy.Tie as tie
+use Rattle.le.proofs.copy.Reads as reads
+use Rattle.le.proofs.copy.Lts as lts
+use Rattle.le.proofs.least.Reads as least-reads
+
+abbrev Inv-loop : tie.InvT-loop
+Inv-loop src dst₀ n i₀ dst i = (i ≤ n) × (length dst ≡ length dst₀) × (dst ≡ take i src ++ drop i dst₀)
+
+abbrev μ-loop : tie.MeasureT-loop
+μ-loop src dst₀ n i₀ dst i = n - i
+
+-- src/lib.rt:21:9
+least-requires : tie.Need-least-requires Inv-loop μ-loop
+least-requires c κs = search needs
+
+-- src/lib.rt:23:5
+loop-holds : tie.Need-loop-holds Inv-loop μ-loop
+loop-holds c = search needs
+
+-- src/lib.rt:24:18
+shared-slice-read-dst : tie.Need-shared-slice-read-dst Inv-loop μ-loop
+shared-slice-read-dst c = search needs
+
+-- src/lib.rt:24:9
+slice-write-dst : tie.Need-slice-write-dst Inv-loop μ-loop
+slice-write-dst c = search needs
+
+-- src/lib.rt:25:9
+add-i : tie.Need-add-i Inv-loop μ-loop
+add-i c = search needs
+
+-- src/lib.rt:23:5
+loop-less : tie.Need-loop-less Inv-loop μ-loop
+loop-less c = search needs
+
+-- src/lib.rt:23:5
+loop-again : tie.Need-loop-again Inv-loop μ-loop
+loop-again c =
+    let at-loop = c .before .before in
+    let args = at-loop .before .before .before .before .args in
+    let n = at-loop .before .least .ensures in
+    (search needs, simp length-set (omega arith), copy-suc (at-loop .loop .i) (args .src .now) (args .dst .now) (at-loop .loop .dst) (omega arith) (omega arith) (at-loop .loop .inv .2))
+
+-- src/lib.rt:18:1
+same-length : tie.Need-same-length Inv-loop μ-loop
+same-length c = search needs
+
+-- src/lib.rt:18:1
+returns : tie.Need-returns Inv-loop μ-loop
+returns c =
+    let at-loop = c .before in
+    let args = at-loop .before .before .before .before .args in
+    let n = at-loop .before .least .ensures in
+    at-loop .loop .inv .2 ∙ copy-all (at-loop .loop .i) (args .src .now) (args .dst .now) (omega arith)
+
+pub copy-spec : {M : Type 1} → statement M
+copy-spec =
+    tie.close
+    (tie.spec
+    Inv-loop
+    μ-loop
+    least-requires
+    loop-holds
+    shared-slice-read-dst
+    slice-write-dst
+    add-i
+    loop-less
+    loop-again
+    same-length
+    returns)

@@ -1,0 +1,60 @@
+-- `le::sum::sum8` meets its contract. The loop's invariant: the sum so far and the sum of the rest are the sum of all, modulo 2^8.
+-- Assumes nothing.
+use Prim.Native.Nat.{_+_, _-_, _%_, _≤_, _<_}
+use mathlib.Core.Path.{_≡_, refl, sym, ap, _∙_}
+use native.Mathlib.Omega.{arith}
+use lib.Dec.{lit<}
+use lib.ListN.{length, drop}
+use Rattle.le.specs.Sum.{sum, totalOf}
+use Rattle.le.proofs.Sums.{turn, passed}
+use Rattle.le.proofs.Words.{byte-at}
+use borrow.Author.Needs.{needs}
+use Rattle.le.proofs.sum.sum8.Statement.{statement}
+use Rattle.le.proofs.sum.sum8.Tie as tie
+
+abbrev Inv-loop : tie.InvT-loop
+Inv-loop s sum₀ at₀ sum at = (at ≤ length s) × (sum < 256) × ((sum + totalOf 1 (drop at s)) % 256 ≡ totalOf 1 s % 256)
+
+abbrev μ-loop : tie.MeasureT-loop
+μ-loop s sum₀ at₀ sum at = length s - at
+
+loop-holds : tie.Need-loop-holds Inv-loop μ-loop
+loop-holds c = search needs
+
+shared-slice-read-wrapping-add-u8 : tie.Need-shared-slice-read-wrapping-add-u8 Inv-loop μ-loop
+shared-slice-read-wrapping-add-u8 c = search needs
+
+wrapping-add-u8-requires : tie.Need-wrapping-add-u8-requires Inv-loop μ-loop
+wrapping-add-u8-requires c κs = search needs
+
+add-at : tie.Need-add-at Inv-loop μ-loop
+add-at c = search needs
+
+loop-less : tie.Need-loop-less Inv-loop μ-loop
+loop-less c = search needs
+
+loop-again : tie.Need-loop-again Inv-loop μ-loop
+loop-again c =
+    let at-loop = c .before .before .before in
+    let s = at-loop .before .before .args .s .now in
+    let at = at-loop .loop .at in
+    (search needs, search needs, turn 1 at (at-loop .loop .sum) _ _ s (lit< tt) (at-loop .loop .inv .2) (rw (byte-at s at) (c .wrapping-add-u8 .ensures)))
+
+returns : tie.Need-returns Inv-loop μ-loop
+returns c =
+    let end = c .before .loop in
+    passed 1 (end .at) (end .sum) (c .before .before .before .args .s .now) (search needs) (search needs) (end .inv .2)
+
+pub sum8-spec : {M : Type 1} → statement M
+sum8-spec =
+    tie.close
+    (tie.spec
+    Inv-loop
+    μ-loop
+    loop-holds
+    shared-slice-read-wrapping-add-u8
+    wrapping-add-u8-requires
+    add-at
+    loop-less
+    loop-again
+    returns)

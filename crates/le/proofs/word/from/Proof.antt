@@ -1,0 +1,38 @@
+-- `le::word::from` meets its contract: the part from `at` on is all that `drop` leaves.
+-- Assumes nothing.
+use mathlib.Core.Path.{sym}
+use native.Mathlib.Omega.{arith}
+use lib.ListN.{drop-of-length-le}
+use Rattle.le.proofs.Parts.{rest}
+use borrow.Author.Needs.{needs}
+use Rattle.le.proofs.word.from.Statement.{statement}
+use Rattle.le.proofs.word.from.Tie as tie
+
+sub-result : tie.Need-sub-result
+sub-result c = search needs
+
+part-result-start : tie.Need-part-result-start
+part-result-start c = search needs
+
+part-result-end : tie.Need-part-result-end
+part-result-end c = search needs
+
+slice-aggregate-result : tie.Need-slice-aggregate-result
+slice-aggregate-result c = search needs
+
+returns : tie.Need-returns
+returns c = let a = c .before .before .args in rest (a .s .now) (a .at)
+
+returns-2 : tie.Need-returns-2
+returns-2 c = let a = c .before .before .args in sym (drop-of-length-le (a .s .now) {i = a .at} (omega arith))
+
+pub from-spec : {M : Type 1} → statement M
+from-spec =
+    tie.close
+    (tie.spec
+    sub-result
+    part-result-start
+    part-result-end
+    slice-aggregate-result
+    returns
+    returns-2)

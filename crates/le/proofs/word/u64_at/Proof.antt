@@ -1,0 +1,17 @@
+-- `le::word::u64_at` meets its contract: the first word of what stands from `at` on.
+-- Assumes nothing.
+use borrow.Author.Needs.{needs}
+use Rattle.le.proofs.word.u64_at.Statement.{statement}
+use Rattle.le.proofs.word.u64_at.Tie as tie
+
+from-requires : tie.Need-from-requires
+from-requires c κs = search needs
+
+first-u64-requires : tie.Need-first-u64-requires
+first-u64-requires c κs = search needs
+
+returns : tie.Need-returns
+returns c = cc
+
+pub u64-at-spec : {M : Type 1} → statement M
+u64-at-spec = tie.close (tie.spec from-requires first-u64-requires returns)

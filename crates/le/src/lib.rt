@@ -1,0 +1,27 @@
+// Little-endian words, sums and copies over byte slices. Everything above reads bytes through this
+// crate, and knows it by its promises alone.
+pub mod sum;
+pub mod word;
+
+ghost use mathlib.Core.Path.{_≡_};
+ghost use Prim.Native.Nat.{min};
+ghost use Rattle.le.specs.Copy.{copied};
+
+fn least(a: usize, b: usize) -> usize
+    ensures { λ r. ⌜ r ≡ min a b ⌝ }
+{
+    if a < b { a } else { b }
+}
+
+// Copies src to the start of dst, as much of it as fits; the rest of dst stays. Lent `&mut d[at..]`,
+// it changes d from `at` on.
+pub fn copy(src: &[u8], dst: &mut [u8])
+    ensures { λ _. ⌜ now (dst .exit) ≡ copied (now (src .entry)) (now (dst .entry)) ⌝ }
+{
+    let n = least(src.len(), dst.len());
+    let mut i = 0;
+    while i < n {
+        dst[i] = src[i];
+        i += 1;
+    }
+}

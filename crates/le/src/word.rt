@@ -1,0 +1,123 @@
+// Words of 1, 2, 4 and 8 bytes: read at any place of a slice, and laid out as bytes. Bytes past the
+// end of the slice count as 0, so there is a word at every place.
+ghost use mathlib.Core.Path.{_≡_};
+ghost use lib.ListN.{drop, getD};
+ghost use Rattle.le.specs.Word.{word, bytes};
+
+// The slice from `at` on; empty where `at` is past its end.
+fn from(s: &[u8], at: usize) -> &[u8]
+    ensures { λ r. ⌜ now r ≡ drop at (now (s .entry)) ⌝ }
+{
+    if at <= s.len() { &s[at..] } else { &s[..0] }
+}
+
+// The byte at `i`; 0 past the end.
+fn byte(s: &[u8], i: usize) -> u8
+    ensures { λ r. ⌜ r ≡ getD (now (s .entry)) i 0 ⌝ }
+{
+    if i < s.len() { s[i] } else { 0 }
+}
+
+// The words in a slice's first bytes. Each is one flat sum, which compiles to a single load.
+fn first_u16(s: &[u8]) -> u16
+    ensures { λ r. ⌜ r ≡ word 2 (now (s .entry)) ⌝ }
+{
+    byte(s, 0) as u16 + byte(s, 1) as u16 * 0x100
+}
+
+fn first_u32(s: &[u8]) -> u32
+    ensures { λ r. ⌜ r ≡ word 4 (now (s .entry)) ⌝ }
+{
+    byte(s, 0) as u32
+        + byte(s, 1) as u32 * 0x100
+        + byte(s, 2) as u32 * 0x1_0000
+        + byte(s, 3) as u32 * 0x100_0000
+}
+
+fn first_u64(s: &[u8]) -> u64
+    ensures { λ r. ⌜ r ≡ word 8 (now (s .entry)) ⌝ }
+{
+    byte(s, 0) as u64
+        + byte(s, 1) as u64 * 0x100
+        + byte(s, 2) as u64 * 0x1_0000
+        + byte(s, 3) as u64 * 0x100_0000
+        + byte(s, 4) as u64 * 0x1_0000_0000
+        + byte(s, 5) as u64 * 0x100_0000_0000
+        + byte(s, 6) as u64 * 0x1_0000_0000_0000
+        + byte(s, 7) as u64 * 0x100_0000_0000_0000
+}
+
+// The word at a place of a slice.
+pub fn u8_at(s: &[u8], at: usize) -> u8
+    ensures { λ r. ⌜ r ≡ word 1 (drop at (now (s .entry))) ⌝ }
+{
+    byte(s, at)
+}
+
+pub fn u16_at(s: &[u8], at: usize) -> u16
+    ensures { λ r. ⌜ r ≡ word 2 (drop at (now (s .entry))) ⌝ }
+{
+    first_u16(from(s, at))
+}
+
+pub fn u32_at(s: &[u8], at: usize) -> u32
+    ensures { λ r. ⌜ r ≡ word 4 (drop at (now (s .entry))) ⌝ }
+{
+    first_u32(from(s, at))
+}
+
+pub fn u64_at(s: &[u8], at: usize) -> u64
+    ensures { λ r. ⌜ r ≡ word 8 (drop at (now (s .entry))) ⌝ }
+{
+    first_u64(from(s, at))
+}
+
+// The bytes of a word.
+pub fn u8_bytes(x: u8) -> [u8; 1]
+    ensures { λ r. ⌜ r ≡ bytes 1 x ⌝ }
+{
+    [x]
+}
+
+pub fn u16_bytes(x: u16) -> [u8; 2]
+    ensures { λ r. ⌜ r ≡ bytes 2 x ⌝ }
+{
+    let x1 = x / 256;
+    [(x % 256) as u8, (x1 % 256) as u8]
+}
+
+pub fn u32_bytes(x: u32) -> [u8; 4]
+    ensures { λ r. ⌜ r ≡ bytes 4 x ⌝ }
+{
+    let x1 = x / 256;
+    let x2 = x1 / 256;
+    let x3 = x2 / 256;
+    [
+        (x % 256) as u8,
+        (x1 % 256) as u8,
+        (x2 % 256) as u8,
+        (x3 % 256) as u8,
+    ]
+}
+
+pub fn u64_bytes(x: u64) -> [u8; 8]
+    ensures { λ r. ⌜ r ≡ bytes 8 x ⌝ }
+{
+    let x1 = x / 256;
+    let x2 = x1 / 256;
+    let x3 = x2 / 256;
+    let x4 = x3 / 256;
+    let x5 = x4 / 256;
+    let x6 = x5 / 256;
+    let x7 = x6 / 256;
+    [
+        (x % 256) as u8,
+        (x1 % 256) as u8,
+        (x2 % 256) as u8,
+        (x3 % 256) as u8,
+        (x4 % 256) as u8,
+        (x5 % 256) as u8,
+        (x6 % 256) as u8,
+        (x7 % 256) as u8,
+    ]
+}

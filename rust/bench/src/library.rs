@@ -1,0 +1,59 @@
+//! The library with the signatures of `baseline`, and nothing between them and the C functions.
+
+use hoursquall::raw;
+
+#[inline(always)]
+pub fn sum8(bytes: &[u8]) -> u8 {
+    // SAFETY: the pointer and the length are those of one slice.
+    unsafe { raw::hs_sum8(bytes.as_ptr(), bytes.len()) }
+}
+
+#[inline(always)]
+pub fn sum32(bytes: &[u8]) -> u32 {
+    // SAFETY: the pointer and the length are those of one slice.
+    unsafe { raw::hs_sum32(bytes.as_ptr(), bytes.len()) }
+}
+
+#[inline(always)]
+pub fn parse(frame: &[u8], us: u32, header: &mut [u32; 6]) -> u32 {
+    // SAFETY: the pointer and the length are those of one slice; `header` is borrowed exclusively.
+    unsafe { raw::hs_frame_parse(frame.as_ptr(), frame.len(), us, header) }
+}
+
+#[inline(always)]
+pub fn count(length: usize, piece_size: usize, frames: &mut usize) -> u32 {
+    // SAFETY: the pointer is that of one number.
+    unsafe { raw::hs_frame_count(length, piece_size, frames) }
+}
+
+#[inline(always)]
+#[allow(clippy::too_many_arguments)] // those of the C function
+pub fn write(
+    id: u32,
+    sender: u32,
+    status: u32,
+    receiver: u32,
+    message: &[u8],
+    piece_size: usize,
+    index: usize,
+    out: &mut [u8],
+    frame_len: &mut usize,
+) -> u32 {
+    // SAFETY: each pointer and length are those of one slice; what is written is borrowed
+    // exclusively.
+    unsafe {
+        raw::hs_frame_write(
+            id,
+            sender,
+            status,
+            receiver,
+            message.as_ptr(),
+            message.len(),
+            piece_size,
+            index,
+            out.as_mut_ptr(),
+            out.len(),
+            frame_len,
+        )
+    }
+}

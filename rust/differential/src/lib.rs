@@ -1,0 +1,23 @@
+//! What the differential tests share. Each test compares the library's answers, and every byte of
+//! the memory that it was lent, with the reference; seeds are fixed, so that a failure repeats.
+
+pub mod frames;
+pub mod memory;
+pub mod random;
+
+use std::env;
+
+/// How many random cases to try: `base`, times `HOURSQUALL_CASES` for a longer run.
+pub fn cases(base: usize) -> usize {
+    let Ok(factor) = env::var("HOURSQUALL_CASES") else {
+        return base;
+    };
+    let factor: usize = factor.parse().expect("HOURSQUALL_CASES is a number");
+    base * factor
+}
+
+/// Says how many cases a test compared; `cargo test -- --nocapture` shows it.
+pub fn report(what: &str, compared: usize) {
+    assert!(compared > 0, "{what}: nothing was compared");
+    println!("{what}: {compared} cases");
+}

@@ -1,0 +1,74 @@
+//! The C header declares what the raw module declares: a comparison of the two texts.
+
+const RAW: &str = include_str!("../../hoursquall/src/raw.rs");
+const HEADER: &str = include_str!("../../../include/hoursquall.h");
+
+/// The header with every run of white space as one space.
+fn header() -> String {
+    HEADER.split_whitespace().collect::<Vec<_>>().join(" ")
+}
+
+/// Each function of the raw module as C declares it.
+fn declarations() -> Vec<String> {
+    RAW.split("pub fn ").skip(1).map(declaration).collect()
+}
+
+fn declaration(item: &str) -> String {
+    let (head, tail) = item.split_once(") -> ").expect("every function answers");
+    let (name, parameters) = head.split_once('(').expect("a list of parameters");
+    let (answer, _) = tail.split_once(';').expect("an end");
+    let parameters: Vec<String> = parameters
+        .split(',')
+        .map(str::trim)
+        .filter(|parameter| !parameter.is_empty())
+        .map(|parameter| parameter.split_once(": ").expect("name: type"))
+        .map(|(name, kind)| declarator(name, kind))
+        .collect();
+    let answer = declarator(name, answer);
+    format!("{answer}({});", parameters.join(", "))
+}
+
+fn declarator(name: &str, kind: &str) -> String {
+    match kind {
+        "u8" => format!("uint8_t {name}"),
+        "u32" => format!("uint32_t {name}"),
+        "usize" => format!("size_t {name}"),
+        "*const u8" => format!("const uint8_t *{name}"),
+        "*mut u8" => format!("uint8_t *{name}"),
+        "*mut usize" => format!("size_t *{name}"),
+        "*mut [u32; 6]" => format!("uint32_t {name}[HS_HEADER_WORDS]"),
+        _ => panic!("{name}: no C type is listed here for {kind}"),
+    }
+}
+
+#[test]
+fn every_function_is_declared() {
+    let header = header();
+    let declarations = declarations();
+    assert!(!declarations.is_empty());
+    for declaration in &declarations {
+        assert!(header.contains(declaration), "missing: {declaration}");
+    }
+    let declared = header.split(' ').filter(|word| is_function(word)).count();
+    assert_eq!(declared, declarations.len(), "functions in the header");
+}
+
+fn is_function(word: &str) -> bool {
+    word.starts_with("hs_") && word.contains('(')
+}
+
+#[test]
+fn sizes_agree() {
+    let header = header();
+    let sizes = [
+        ("HS_HEADER_SIZE", hoursquall::HEADER_SIZE),
+        ("HS_FRAME_MAX", hoursquall::FRAME_MAX),
+        ("HS_PIECE_MAX", hoursquall::PIECE_MAX),
+        ("HS_MESSAGE_MAX", hoursquall::MESSAGE_MAX),
+        ("HS_HEADER_WORDS", 6),
+    ];
+    for (name, size) in sizes {
+        let definition = format!(" {name} = {size},");
+        assert!(header.contains(&definition), "missing: {definition}");
+    }
+}

@@ -1,0 +1,76 @@
+//! The specification's own numbers for frames and sums, on the library and on the reference.
+
+use differential::frames::{library_frames, reference_frames, Frames};
+use hoursquall::Envelope;
+
+/// What is checked, of either implementation.
+struct Implementation {
+    name: &'static str,
+    count: fn(usize, usize) -> Result<usize, u32>,
+    frames: fn(&Envelope, &[u8], usize) -> Frames,
+    sum32: fn(&[u8]) -> u32,
+}
+
+const BOTH: [Implementation; 2] = [
+    Implementation {
+        name: "library",
+        count: hoursquall::count,
+        frames: library_frames,
+        sum32: hoursquall::sum32,
+    },
+    Implementation {
+        name: "reference",
+        count: reference::frame::count,
+        frames: reference_frames,
+        sum32: reference::sum::sum32,
+    },
+];
+
+const ENVELOPE: Envelope = Envelope {
+    id: 0x0102_0304,
+    sender: 10,
+    receiver: 11,
+    status: 0xFFFF_FFFF,
+};
+
+#[test]
+fn five_bytes_in_pieces_of_two() {
+    let first = [
+        0x11, 0x00, 0x00, 0x00, 0x04, 0x03, 0x02, 0x01, 0x0A, 0x00, 0x00, 0x00, 0x0B, 0x00, 0x00,
+        0x00, 0xFF, 0xFF, 0xFF, 0xFF, 0x05, 0x00, 0x00, 0x00, 0x01, 0x02,
+    ];
+    for Implementation { name, frames, .. } in BOTH {
+        let frames = frames(&ENVELOPE, &[1, 2, 3, 4, 5], 2).expect(name);
+        let lengths: Vec<usize> = frames.iter().map(Vec::len).collect();
+        assert_eq!(lengths, [26, 26, 25], "{name}");
+        assert_eq!(frames[0], first, "{name}");
+    }
+}
+
+#[test]
+fn longest_message() {
+    for implementation in BOTH {
+        let name = implementation.name;
+        assert_eq!((implementation.count)(4096, 232), Ok(18), "{name}");
+        let frames = (implementation.frames)(&ENVELOPE, &[0xA5; 4096], 232).expect(name);
+        assert_eq!(frames.len(), 18, "{name}");
+        assert_eq!(frames[17].len(), 24 + 152, "{name}");
+    }
+}
+
+#[test]
+fn message_too_long() {
+    for implementation in BOTH {
+        let name = implementation.name;
+        assert_eq!((implementation.count)(4097, 232), Err(10), "{name}");
+        let frames = (implementation.frames)(&ENVELOPE, &[0xA5; 4097], 232);
+        assert_eq!(frames, Err(10), "{name}");
+    }
+}
+
+#[test]
+fn short_last_word() {
+    for Implementation { name, sum32, .. } in BOTH {
+        assert_eq!(sum32(&[0x01, 0x00, 0x00, 0x00, 0xFF]), 0x100, "{name}");
+    }
+}

@@ -1,0 +1,31 @@
+//! The C functions as `include/hoursquall.h` declares them. That header says what each answers
+//! and what a caller owes; the functions of the crate's root owe it for you.
+
+extern "C" {
+    pub fn hs_sum8(s: *const u8, s_len: usize) -> u8;
+
+    pub fn hs_sum32(s: *const u8, s_len: usize) -> u32;
+
+    pub fn hs_frame_parse(
+        frame: *const u8,
+        frame_len: usize,
+        us: u32,
+        header: *mut [u32; 6],
+    ) -> u32;
+
+    pub fn hs_frame_count(length: usize, piece_size: usize, frames: *mut usize) -> u32;
+
+    pub fn hs_frame_write(
+        id: u32,
+        sender: u32,
+        status: u32,
+        receiver: u32,
+        message: *const u8,
+        message_len: usize,
+        piece_size: usize,
+        index: usize,
+        out: *mut u8,
+        out_len: usize,
+        frame_len: *mut usize,
+    ) -> u32;
+}

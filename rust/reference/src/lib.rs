@@ -1,0 +1,7 @@
+//! A second implementation, for the differential tests to hold the proved library to.
+//!
+//! It is written from the specification (document 01) alone, never from the library's code or
+//! definitions, and it prefers the obvious to the fast.
+
+pub mod frame;
+pub mod sum;
