@@ -1,4 +1,4 @@
--- Every starred number of document 01 holds: the test computes.
+-- Each number of the table holds: the test computes.
 -- Assumes nothing.
 use mathlib.Core.Path.{refl}
 use Rattle.le.specs.Word.{word, bytes}

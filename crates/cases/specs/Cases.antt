@@ -1,27 +1,28 @@
--- Document 01, "Numbers to check by": the starred numbers, as one table and one statement over it. Each row is a question to the
--- definitions that the code is proved to meet, and the answer that the document gives.
+-- Document 01, "Numbers to check by": the starred numbers of what is built so far, as one table and one statement over it. Each row is a
+-- question to the definitions that the code is proved to meet, and the answer that the document gives. Those of the reassembly ("the third
+-- gets 6"), the notice ring, the UBIOS root and the SFI tables join with their crates.
 -- Assumes nothing.
-use Prim.Native.Nat.{ℕ, zero, suc, _+_}
+use Prim.Native.Nat.{ℕ, _+_}
 use mathlib.Core.Bool.{Bool, true, false, _&&_}
 use mathlib.Core.Path.{_≡_}
 use mathlib.Core.List.{List, [], _∷_}
 use lib.Dec.{eqb}
 use lib.ListN.{length, take, replicate}
 use Rattle.le.specs.Sum.{sum}
-use Rattle.frame.specs.Writing.{counted, frameAt, written, landed}
+use Rattle.frame.specs.Writing.{counted, written, outputAfter}
 use Rattle.frame.specs.declared.Envelope.{Envelope}
 use Rattle.frame.specs.declared.write.Counted.{Counted}
-use Rattle.frame.specs.declared.write.Counted.the-variants.{Frames, Refused as NoCount}
+use Rattle.frame.specs.declared.write.Counted.the-variants.{Frames, Refused as Uncounted}
 use Rattle.frame.specs.declared.write.Written.{Written}
-use Rattle.frame.specs.declared.write.Written.the-variants.{Frame, Refused as NoFrame}
+use Rattle.frame.specs.declared.write.Written.the-variants.{Frame, Refused as Unwritten}
 
 -- a question, with its answer last
 pub data Case : Type 0 where
-  -- the 32-bit sum of these bytes
-  sums : List ℕ → ℕ → Case
+  -- the sum of these bytes, in words of that many bytes
+  sums : ℕ → List ℕ → ℕ → Case
   -- how many frames a message of this length makes in pieces of this size
   counts : ℕ → ℕ → ℕ → Case
-  -- how long the frame of this Index is, written to an empty output of 256 bytes
+  -- how long the frame of this Index is, written to an output of 256 zero bytes
   frames : Envelope → List ℕ → ℕ → ℕ → ℕ → Case
   -- the first bytes of that output
   writes : Envelope → List ℕ → ℕ → ℕ → List ℕ → Case
@@ -35,11 +36,11 @@ same (x ∷ xs) (y ∷ ys) = eqb x y && same xs ys
 
 unfoldable pub isCount : Counted → ℕ → Bool
 isCount (Frames n) expected = eqb n expected
-isCount (NoCount reason) expected = false
+isCount (Uncounted reason) expected = false
 
 unfoldable pub isLength : Written → ℕ → Bool
 isLength (Frame n) expected = eqb n expected
-isLength (NoFrame reason) expected = false
+isLength (Unwritten reason) expected = false
 
 -- an output of 256 zero bytes
 abbrev pub output : List ℕ
@@ -47,11 +48,11 @@ output = replicate 256 0
 
 unfoldable pub holds : Case → Bool
 unfolding same isCount isLength
-holds (sums s expected) = eqb (sum 4 s) expected
-holds (counts length size expected) = isCount (counted length size) expected
+holds (sums k s expected) = eqb (sum k s) expected
+holds (counts total size expected) = isCount (counted total size) expected
 holds (frames e message size index expected) = isLength (written e message size index output) expected
 holds (writes e message size index expected) =
-    same (take (length expected) (landed (written e message size index output) (frameAt e message size index) output)) expected
+    same (take (length expected) (outputAfter e message size index output)) expected
 
 unfoldable pub allHold : List Case → Bool
 unfolding holds
@@ -60,7 +61,7 @@ allHold (c ∷ cs) = holds c && allHold cs
 
 -- Message ID 0x01020304, sender 10, receiver 11, word 0xFFFFFFFF; data 01 to 05
 pub envelope : Envelope
-envelope = record { id = 0x01020304; sender = 10; receiver = 11; status = 0xFFFFFFFF }
+envelope = record { id = 0x01020304; sender = 10; status = 0xFFFFFFFF; receiver = 11 }
 
 pub message : List ℕ
 message = 1 ∷ 2 ∷ 3 ∷ 4 ∷ 5 ∷ []
@@ -80,9 +81,9 @@ starred =
     ∷ counts 4096 232 18
     ∷ frames envelope (replicate 4096 7) 232 17 (24 + 152)
     -- used bytes 01 00 00 00 FF sum to 0x100
-    ∷ sums (1 ∷ 0 ∷ 0 ∷ 0 ∷ 0xFF ∷ []) 0x100
+    ∷ sums 4 (1 ∷ 0 ∷ 0 ∷ 0 ∷ 0xFF ∷ []) 0x100
     ∷ []
 
--- the one statement: every starred number holds
+-- the one statement: each of these numbers holds
 abbrev pub StarredHold : Type 0
 StarredHold = allHold starred ≡ true

@@ -7,8 +7,10 @@ use frame::write::Counted;
 use frame::write::Written;
 use libc::STDOUT_FILENO;
 
-// The deck computer.
-const RECEIVER: u32 = 11;
+// The towed head, and the deck computer that it sends to.
+const HEAD: u32 = 10;
+
+const DECK: u32 = 11;
 
 const PIECE: usize = 16;
 
@@ -26,6 +28,11 @@ fn print_word(name: &[u8], value: u32) {
     print_number(value as u64);
 }
 
+fn print_refusal(number: u32) {
+    print_word(b"  refused with ", number);
+    print(b"\n");
+}
+
 fn print_header(h: Header) {
     let words = h.words;
     print_word(b": index ", h.index as u32);
@@ -41,12 +48,9 @@ fn print_frame(frame: &[u8]) {
     print(b"  ");
     print_number(frame.len() as u64);
     print(b" bytes");
-    match frame::read::parse(frame, RECEIVER) {
+    match frame::read::parse(frame, DECK) {
         Parsed::Header(h) => print_header(h),
-        Parsed::Refused(reason) => {
-            print_word(b": refused with ", reason.number());
-            print(b"\n");
-        }
+        Parsed::Refused(reason) => print_refusal(reason.number()),
     }
 }
 
@@ -63,7 +67,7 @@ fn is_lost(id: u32, index: usize) -> bool {
 }
 
 fn send_frame(e: Envelope, message: &[u8], index: usize) {
-    let mut out = [0u8; 256];
+    let mut out = [0u8; Header::FRAME_MAX];
     match frame::write::write(e, message, PIECE, index, &mut out) {
         Written::Frame(length) => {
             if is_lost(e.id, index) {
@@ -72,7 +76,7 @@ fn send_frame(e: Envelope, message: &[u8], index: usize) {
                 print_start(&out, length);
             }
         }
-        Written::Refused(_) => {}
+        Written::Refused(reason) => print_refusal(reason.number()),
     }
 }
 
@@ -85,20 +89,20 @@ fn send_frames(e: Envelope, message: &[u8], frames: usize) {
 }
 
 fn send(id: u32, message: &[u8]) {
-    let e = Envelope {
-        id,
-        sender: 10,
-        receiver: RECEIVER,
-        status: 0xFFFF_FFFF,
-    };
-    let Counted::Frames(frames) = frame::write::count(message.len(), PIECE) else {
-        return;
-    };
     print_word(b"message ", id);
     print(b", ");
     print_number(message.len() as u64);
     print(b" bytes\n");
-    send_frames(e, message, frames);
+    let e = Envelope {
+        id,
+        sender: HEAD,
+        status: 0xFFFF_FFFF,
+        receiver: DECK,
+    };
+    match frame::write::count(message.len(), PIECE) {
+        Counted::Frames(frames) => send_frames(e, message, frames),
+        Counted::Refused(reason) => print_refusal(reason.number()),
+    }
 }
 
 fn send_file(id: u32, path: &[u8]) {
@@ -107,7 +111,7 @@ fn send_file(id: u32, path: &[u8]) {
         os::fail(path);
         return;
     }
-    let mut message = io::buffer();
+    let mut message = io::large_buffer();
     let n = io::read_full(fd, &mut message);
     libc::close(fd);
     send(id, &message[..n]);

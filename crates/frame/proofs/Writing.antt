@@ -1,121 +1,31 @@
 -- The laws of the writer.
---     counted-legal      where there is a count, the length and the piece size are legal, and the count is theirs
---     counts             and back
---     written-by-count   the writer refuses as the count does, and goes on from there
+--     length-header, length-frame     how long a header and a frame are
+--     lay-short, lay-fits             what laying a frame at the output's start answers
+--     refused, no-frame, one-frame    the writer's answers: as the count refuses, past the count, and below it
+--     wrote                           what is known where the answer is a frame
 -- Assumes nothing.
 use Prim.Native.Nat.{ℕ, _+_, _≤_, _<_}
-use mathlib.Core.Bool.{Bool, true, false, cond, _||_}
-use mathlib.Core.Path.{_≡_, refl}
+use mathlib.Core.Bool.{Bool, true, false, cond}
+use mathlib.Core.Path.{_≡_, refl, sym, _∙_}
 use mathlib.Core.List.{List}
-use borrow.Author.Tests.{ne-eqb, ltb-false, eqb-false, leb-true, leb-false, lt-ltb, le-ltb, le-leb, lt-leb}
-use lib.Dec.{ltb, leb, eqb}
+use borrow.Author.Tests.{leb-true, leb-false, ltb-false, lt-ltb, le-ltb, le-leb, lt-leb}
+use lib.Dec.{ltb, leb}
 use native.Mathlib.Omega.{arith}
 use lib.ListN.{length, length-append}
 use Rattle.le.specs.Word.{bytes}
-use Rattle.frame.specs.Layout.{headerSize, pieceMax, messageMax, headerBytes, frameOf}
-use Rattle.frame.specs.Writing.{badSize, countOf, counted, frameAt, laid, written}
+use Rattle.frame.specs.Layout.{headerSize, messageMax, headerBytes, frameOf}
+use Rattle.frame.specs.Writing.{badSize, countOf, counted, frameAt, written}
+use Rattle.frame.specs.Helpers.{layAnswer}
 use Rattle.frame.specs.declared.Envelope.{Envelope}
 use Rattle.frame.specs.declared.Header.{Header}
 use Rattle.frame.specs.declared.write.Reason.{Reason}
 use Rattle.frame.specs.declared.write.Reason.the-variants.{MessageLong, PieceSize, NoFrame, OutputShort}
 use Rattle.frame.specs.declared.write.Counted.{Counted}
-use Rattle.frame.specs.declared.write.Counted.the-variants.{Frames, Refused as NoCount}
+use Rattle.frame.specs.declared.write.Counted.the-variants.{Frames, Refused as Uncounted}
 use Rattle.frame.specs.declared.write.Written.{Written}
-use Rattle.frame.specs.declared.write.Written.the-variants.{Frame, Refused}
+use Rattle.frame.specs.declared.write.Written.the-variants.{Frame, Refused as Unwritten}
+use Rattle.frame.proofs.Counting.{Legal, counted-legal}
 
--- a legal length and piece size, and the count that is theirs
-pub record Legal (n size frames : ℕ) : Type 0 where
-  pub message : n ≤ messageMax
-  pub some : 0 < size
-  pub piece : size ≤ pieceMax
-  pub count : frames ≡ countOf n size
-
-pub counted-legal : (n size frames : ℕ) → Frames frames ≡ counted n size → Legal n size frames
-unfolding counted
-counted-legal n size frames e = go (ltb messageMax n) (eqb size 0) (ltb pieceMax size) refl refl refl e
-  where
-    go : (long none big : Bool) → ltb messageMax n ≡ long → eqb size 0 ≡ none → ltb pieceMax size ≡ big
-        → Frames frames ≡ cond long (NoCount MessageLong) (cond (none || big) (NoCount PieceSize) (Frames (countOf n size)))
-        → Legal n size frames
-    go true none big l s b q = absurd (let z : _≡_ {A = ℕ} 0 1 = cc in omega arith)
-    go false true big l s b q = absurd (let z : _≡_ {A = ℕ} 0 1 = cc in omega arith)
-    go false false true l s b q = absurd (let z : _≡_ {A = ℕ} 0 1 = cc in omega arith)
-    go false false false l s b q =
-        let not-zero = eqb-false size 0 s in
-        record { message = ltb-false messageMax n l; some = omega arith; piece = ltb-false pieceMax size b; count = cc }
-
-pub counts : (n size : ℕ) → n ≤ messageMax → 0 < size → size ≤ pieceMax → Frames (countOf n size) ≡ counted n size
-unfolding counted
-counts n size short some big = rw (le-ltb messageMax n short, ne-eqb size 0 (λ e. omega arith), le-ltb pieceMax size big)
-
--- what the writer answers, once the count is known
-abbrev pub afterCount : Counted → Written → Written
-afterCount (NoCount reason) next = Refused reason
-afterCount (Frames frames) next = next
-
-pub written-by-count : (e : Envelope) (m : List ℕ) (size index : ℕ) (out : List ℕ)
-    → written e m size index out
-    ≡ afterCount (counted (length m) size) (cond (leb (countOf (length m) size) index) (Refused NoFrame) (laid (frameAt e m size index) out))
-unfolding written counted
-written-by-count e m size index out = go (ltb messageMax (length m)) (badSize size) _
-  where
-    go : (long bad : Bool) (next : Written)
-        → cond long (Refused MessageLong) (cond bad (Refused PieceSize) next)
-        ≡ afterCount (cond long (NoCount MessageLong) (cond bad (NoCount PieceSize) (Frames (countOf (length m) size)))) next
-    go true bad next = refl
-    go false true next = refl
-    go false false next = refl
-
--- what is known of a frame of n bytes that was written
-pub record Wrote (e : Envelope) (m : List ℕ) (size index n : ℕ) : Type 0 where
-  pub frames : ℕ
-  pub legal : Legal (length m) size frames
-  pub below : index < frames
-  pub length-is : n ≡ length (frameAt e m size index)
-
--- one law for each of the writer's answers
-module _ (e : Envelope) (m : List ℕ) (size index : ℕ) (out : List ℕ) where
-  pub refused : (reason : Reason) → NoCount reason ≡ counted (length m) size → Refused reason ≡ written e m size index out
-  refused reason q = rw (written-by-count e m size index out, ← q)
-
-  pub no-frame : (frames : ℕ) → Frames frames ≡ counted (length m) size → frames ≤ index → Refused NoFrame ≡ written e m size index out
-  no-frame frames q h =
-      let count = counted-legal (length m) size frames q .count in
-      rw (written-by-count e m size index out, ← q, ← count, le-leb frames index h)
-
-  pub one-frame : (frames : ℕ) → Frames frames ≡ counted (length m) size → index < frames → laid (frameAt e m size index) out ≡ written e m size index out
-  one-frame frames q h =
-      let count = counted-legal (length m) size frames q .count in
-      rw (written-by-count e m size index out, ← q, ← count, lt-leb frames index h)
-
-  -- and what is known where the answer is a frame
-  pub wrote : (n : ℕ) → written e m size index out ≡ Frame n → Wrote e m size index n
-  wrote n answer = by-count (counted (length m) size) refl
-    where
-      by-frame : (frames : ℕ) → Frames frames ≡ counted (length m) size → (none short : Bool) → leb frames index ≡ none → ltb (length out) (length (frameAt e m size index)) ≡ short → Wrote e m size index n
-      by-frame frames q true short none-is short-is =
-          let z : _≡_ {A = ℕ} 0 1 = cc (no-frame frames q (leb-true frames index none-is)) in absurd (omega arith)
-      by-frame frames q false true none-is short-is =
-          let one = one-frame frames q (leb-false frames index none-is) in
-          let z : _≡_ {A = ℕ} 0 1 = cc (rw short-is at one) in
-          absurd (omega arith)
-      by-frame frames q false false none-is short-is =
-          let below = leb-false frames index none-is in
-          let legal = counted-legal (length m) size frames q in
-          let one = one-frame frames q below in
-          record {
-            frames = frames;
-            legal = legal;
-            below = below;
-            length-is = cc (rw short-is at one);
-          }
-
-      by-count : (c : Counted) → c ≡ counted (length m) size → Wrote e m size index n
-      by-count (NoCount reason) q = let z : _≡_ {A = ℕ} 0 1 = cc (refused reason q) in absurd (omega arith)
-      by-count (Frames frames) q =
-          by-frame frames q (leb frames index) (ltb (length out) (length (frameAt e m size index))) refl refl
-
--- the length of a frame, and what laying it at the output's start answers
 pub length-header : (h : Header) → length (headerBytes h) ≡ headerSize
 unfolding headerBytes bytes
 length-header h = refl
@@ -123,8 +33,69 @@ length-header h = refl
 pub length-frame : (h : Header) (p : List ℕ) → length (frameOf h p) ≡ headerSize + length p
 length-frame h p = rw (length-append (headerBytes h) p, length-header h)
 
-pub laid-short : (h : Header) (p out : List ℕ) → length out < headerSize + length p → Refused OutputShort ≡ laid (frameOf h p) out
-laid-short h p out l = rw (length-frame h p, lt-ltb (length out) (headerSize + length p) l)
+pub lay-short : (h : Header) (p out : List ℕ) → length out < headerSize + length p → Unwritten OutputShort ≡ layAnswer (frameOf h p) out
+lay-short h p out l = rw (length-frame h p, lt-ltb (length out) (headerSize + length p) l)
 
-pub laid-fits : (h : Header) (p out : List ℕ) → headerSize + length p ≤ length out → Frame (headerSize + length p) ≡ laid (frameOf h p) out
-laid-fits h p out l = rw (length-frame h p, le-ltb (length out) (headerSize + length p) l)
+pub lay-fits : (h : Header) (p out : List ℕ) → headerSize + length p ≤ length out → Frame (headerSize + length p) ≡ layAnswer (frameOf h p) out
+lay-fits h p out l = rw (length-frame h p, le-ltb (length out) (headerSize + length p) l)
+
+refusal-no-frame : {A : Type 0} {reason : Reason} {n : ℕ} → Unwritten reason ≡ Frame n → A
+refusal-no-frame q = let z : _≡_ {A = ℕ} 0 1 = cc in absurd (omega arith)
+
+-- what is known of a frame of n bytes that was written
+pub record Wrote (e : Envelope) (m : List ℕ) (size index : ℕ) (out : List ℕ) (n : ℕ) : Type 0 where
+  pub frames : ℕ
+  pub legal : Legal (length m) size frames
+  pub below : index < frames
+  pub inside : length (frameAt e m size index) ≤ length out
+  pub length-is : length (frameAt e m size index) ≡ n
+
+-- what the writer answers, once the count has
+abbrev afterCount : Counted → Written → Written
+afterCount (Uncounted reason) next = Unwritten reason
+afterCount (Frames frames) next = next
+
+module _ (e : Envelope) (m : List ℕ) (size index : ℕ) (out : List ℕ) where
+  by-count : written e m size index out
+      ≡ afterCount (counted (length m) size) (cond (leb (countOf (length m) size) index) (Unwritten NoFrame) (layAnswer (frameAt e m size index) out))
+  unfolding written counted
+  by-count = go (ltb messageMax (length m)) (badSize size) _
+    where
+      go : (long bad : Bool) (next : Written)
+          → cond long (Unwritten MessageLong) (cond bad (Unwritten PieceSize) next)
+          ≡ afterCount (cond long (Uncounted MessageLong) (cond bad (Uncounted PieceSize) (Frames (countOf (length m) size)))) next
+      go true bad next = refl
+      go false true next = refl
+      go false false next = refl
+
+  pub refused : (reason : Reason) → counted (length m) size ≡ Uncounted reason → written e m size index out ≡ Unwritten reason
+  refused reason q = rw (by-count, q)
+
+  pub no-frame : (frames : ℕ) → counted (length m) size ≡ Frames frames → frames ≤ index → written e m size index out ≡ Unwritten NoFrame
+  no-frame frames q h = rw (by-count, q, ← counted-legal (length m) size frames q .count, le-leb frames index h)
+
+  pub one-frame : (frames : ℕ) → counted (length m) size ≡ Frames frames → index < frames → written e m size index out ≡ layAnswer (frameAt e m size index) out
+  one-frame frames q h = rw (by-count, q, ← counted-legal (length m) size frames q .count, lt-leb frames index h)
+
+  pub wrote : (n : ℕ) → written e m size index out ≡ Frame n → Wrote e m size index out n
+  wrote n answer = counting (counted (length m) size) refl
+    where
+      laying : (frames : ℕ) → counted (length m) size ≡ Frames frames → index < frames
+          → (short : Bool) → ltb (length out) (length (frameAt e m size index)) ≡ short → Wrote e m size index out n
+      laying frames q below true short-is = refusal-no-frame (sym (rw short-is at (one-frame frames q below)) ∙ answer)
+      laying frames q below false short-is =
+          record {
+            frames = frames;
+            legal = counted-legal (length m) size frames q;
+            below = below;
+            inside = ltb-false (length out) (length (frameAt e m size index)) short-is;
+            length-is = cc (rw short-is at (one-frame frames q below));
+          }
+
+      choosing : (frames : ℕ) → counted (length m) size ≡ Frames frames → (none : Bool) → leb frames index ≡ none → Wrote e m size index out n
+      choosing frames q true none-is = refusal-no-frame (sym (no-frame frames q (leb-true frames index none-is)) ∙ answer)
+      choosing frames q false none-is = laying frames q (leb-false frames index none-is) _ refl
+
+      counting : (c : Counted) → counted (length m) size ≡ c → Wrote e m size index out n
+      counting (Uncounted reason) q = refusal-no-frame (sym (refused reason q) ∙ answer)
+      counting (Frames frames) q = choosing frames q _ refl

@@ -29,6 +29,6 @@ framesFrom e total index (piece ∷ pieces) = frameOf (headerFor e total index) 
 -- these frames are a framing of the message: "Index 0, 1, 2 and on", "and Data Total Size is the message's length"
 pub record Framing (e : Envelope) (message : List ℕ) (frames : List (List ℕ)) : Type 0 where
   pub pieces : List (List ℕ)
-  pub short : length message ≤ messageMax
+  pub bounded : length message ≤ messageMax
   pub cut : Cut message pieces
-  pub these : frames ≡ framesFrom e (length message) 0 pieces
+  pub frames-are : frames ≡ framesFrom e (length message) 0 pieces

@@ -1,7 +1,7 @@
 -- Document 01, "Frames": the table of a frame's words (001, table 11).
 -- Assumes nothing.
 use Prim.Native.Nat.{ℕ}
-use mathlib.Core.List.{List, [], _∷_, _++_}
+use mathlib.Core.List.{List, _∷_, _++_}
 use lib.ListN.{drop}
 use Rattle.le.specs.Word.{word, bytes}
 use Rattle.frame.specs.declared.Envelope.{Envelope}

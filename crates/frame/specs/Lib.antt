@@ -3,4 +3,5 @@ pub mod Layout
 pub mod Framing
 pub mod Reading
 pub mod Writing
+pub mod Helpers
 pub mod Statements

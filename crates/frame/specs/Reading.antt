@@ -1,4 +1,4 @@
--- Document 01: the reader, with refusals 1 to 4, the first that applies.
+-- Document 01, "Frames" and the table of "Reassembly": the reader, with refusals 1 to 4, the first that applies.
 -- Assumes nothing.
 use Prim.Native.Nat.{ℕ}
 use mathlib.Core.Bool.{cond, not}

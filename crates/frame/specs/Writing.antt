@@ -1,4 +1,4 @@
--- Document 01: the writer and the frame count, with refusals 10, 12, 13 and 14, the first that applies.
+-- Document 01, "Frames" and the last lines of "Reassembly": the writer and the frame count, with refusals 10, 12, 13 and 14, the first that applies.
 -- Assumes nothing.
 use Prim.Native.Nat.{ℕ, _+_, _-_, _*_, _/_}
 use mathlib.Core.Bool.{Bool, cond, _||_}
@@ -10,9 +10,9 @@ use Rattle.frame.specs.declared.Envelope.{Envelope}
 use Rattle.frame.specs.declared.write.Reason.{Reason}
 use Rattle.frame.specs.declared.write.Reason.the-variants.{MessageLong, PieceSize, NoFrame, OutputShort}
 use Rattle.frame.specs.declared.write.Counted.{Counted}
-use Rattle.frame.specs.declared.write.Counted.the-variants.{Frames, Refused as NoCount}
+use Rattle.frame.specs.declared.write.Counted.the-variants.{Frames, Refused as Uncounted}
 use Rattle.frame.specs.declared.write.Written.{Written}
-use Rattle.frame.specs.declared.write.Written.the-variants.{Frame, Refused}
+use Rattle.frame.specs.declared.write.Written.the-variants.{Frame, Refused as Unwritten}
 
 abbrev pub numberOf : Reason → ℕ
 numberOf MessageLong = 10
@@ -26,18 +26,18 @@ badSize size = eqb size 0 || ltb pieceMax size
 
 -- "the length divided by the piece size, rounded up"
 abbrev pub roundedUp : ℕ → ℕ → ℕ
-roundedUp length size = (length + (size - 1)) / size
+roundedUp total size = (total + (size - 1)) / size
 
 -- how many frames: "1 for an empty message", else that
 unfoldable pub countOf : ℕ → ℕ → ℕ
-countOf length size = cond (eqb length 0) 1 (roundedUp length size)
+countOf total size = cond (eqb total 0) 1 (roundedUp total size)
 
--- what the count answers
+-- what the count answers: "The count refuses with 10 and 12 alike."
 unfoldable pub counted : ℕ → ℕ → Counted
-counted length size =
-    cond (ltb messageMax length) (NoCount MessageLong)
-    (cond (badSize size) (NoCount PieceSize)
-    (Frames (countOf length size)))
+counted total size =
+    cond (ltb messageMax total) (Uncounted MessageLong)
+    (cond (badSize size) (Uncounted PieceSize)
+    (Frames (countOf total size)))
 
 -- "all pieces but the last have the piece size"
 abbrev pub pieceOf : ℕ → ℕ → List ℕ → List ℕ
@@ -47,19 +47,20 @@ pieceOf size index message = take size (drop (index * size) message)
 abbrev pub frameAt : Envelope → List ℕ → ℕ → ℕ → List ℕ
 frameAt e message size index = frameOf (headerFor e (length message) index) (pieceOf size index message)
 
--- 14 where the output is shorter than the frame, else the frame's length
-abbrev pub laid : List ℕ → List ℕ → Written
-laid frame out = cond (ltb (length out) (length frame)) (Refused OutputShort) (Frame (length frame))
-
--- what the writer answers
+-- what the writer answers: the frame's length, or the first refusal that applies
 unfoldable pub written : Envelope → List ℕ → ℕ → ℕ → List ℕ → Written
 written e message size index out =
-    cond (ltb messageMax (length message)) (Refused MessageLong)
-    (cond (badSize size) (Refused PieceSize)
-    (cond (leb (countOf (length message) size) index) (Refused NoFrame)
-    (laid (frameAt e message size index) out)))
+    cond (ltb messageMax (length message)) (Unwritten MessageLong)
+    (cond (badSize size) (Unwritten PieceSize)
+    (cond (leb (countOf (length message) size) index) (Unwritten NoFrame)
+    (cond (ltb (length out) (length (frameAt e message size index))) (Unwritten OutputShort)
+    (Frame (length (frameAt e message size index))))))
 
--- what the output holds after that answer: the frame and then its own bytes, or all of its own
-abbrev pub landed : Written → List ℕ → List ℕ → List ℕ
-landed (Frame length) frame out = frame ++ drop length out
-landed (Refused reason) frame out = out
+-- what the output holds after an answer: the frame, then its own bytes behind it; or all of its own
+abbrev pub outputOf : Written → List ℕ → List ℕ → List ℕ
+outputOf (Frame n) frame out = frame ++ drop n out
+outputOf (Unwritten reason) frame out = out
+
+-- the output once the writer has answered
+abbrev pub outputAfter : Envelope → List ℕ → ℕ → ℕ → List ℕ → List ℕ
+outputAfter e message size index out = outputOf (written e message size index out) (frameAt e message size index) out

@@ -11,10 +11,10 @@ pub struct Envelope {
     pub id: u32,
     // Sender ID.
     pub sender: u32,
-    // Receiver ID.
-    pub receiver: u32,
     // Output Size or Returned Status.
     pub status: u32,
+    // Receiver ID.
+    pub receiver: u32,
 }
 
 // The four carried words, which every frame of a message repeats.
@@ -33,7 +33,7 @@ pub struct Header {
 }
 
 impl Header {
-    // A header's bytes; the data follows them.
+    // How many bytes a header has; the data follows them.
     pub const SIZE: usize = 24;
     // Type 1 in the low four bits, version 1 in the high four.
     pub const TYPE_VERSION: u8 = 0x11;
@@ -59,8 +59,8 @@ impl Header {
         }
     }
 
-    // The fields of a frame, with no check of it: a frame that is too short reads as if zeros followed.
-    pub fn of(frame: &[u8]) -> Self
+    // The words of a frame, with no check of it: a frame that is too short reads as if zeros followed.
+    pub fn read(frame: &[u8]) -> Self
         ensures { λ r. ⌜ r ≡ headerOf (now (frame .entry)) ⌝ }
     {
         Header {

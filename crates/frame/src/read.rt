@@ -43,20 +43,16 @@ pub fn parse(frame: &[u8], us: u32) -> Parsed
     if le::word::u8_at(frame, 0) != Header::TYPE_VERSION {
         return Parsed::Refused(Reason::WrongType);
     }
-    let header = Header::of(frame);
+    let header = Header::read(frame);
     if header.receiver != us {
         return Parsed::Refused(Reason::OtherReceiver);
     }
     Parsed::Header(header)
 }
 
-// What a frame carries: all that follows its header.
+// What a frame carries: all that follows its header; nothing where it is shorter than that.
 pub fn data(frame: &[u8]) -> &[u8]
     ensures { λ r. ⌜ now r ≡ dataOf (now (frame .entry)) ⌝ }
 {
-    if Header::SIZE <= frame.len() {
-        &frame[Header::SIZE..]
-    } else {
-        &frame[..0]
-    }
+    le::tail(frame, Header::SIZE)
 }

@@ -5,9 +5,10 @@ ghost use mathlib.Core.Path.{_≡_};
 ghost use Prim.Native.Nat.{_*_, _≤_};
 ghost use lib.ListN.{length};
 ghost use Rattle.frame.specs.Layout.{frameOf, pieceMax};
-ghost use Rattle.frame.specs.Writing.{counted, numberOf, pieceOf, frameAt, laid, landed, written};
+ghost use Rattle.frame.specs.Helpers.{layAnswer};
+ghost use Rattle.frame.specs.Writing.{counted, numberOf, pieceOf, frameAt, written, outputOf};
 
-// Why no frame, and no count, is given.
+// Why a count or a frame is refused.
 pub enum Reason {
     MessageLong,
     PieceSize,
@@ -40,11 +41,11 @@ impl Reason {
     }
 }
 
-// How many frames a message of `length` bytes makes in pieces of `size`.
-pub fn count(length: usize, size: usize) -> Counted
-    ensures { λ r. ⌜ r ≡ counted length size ⌝ }
+// How many frames a message of `total` bytes makes in pieces of `size`.
+pub fn count(total: usize, size: usize) -> Counted
+    ensures { λ r. ⌜ r ≡ counted total size ⌝ }
 {
-    if Header::MESSAGE_MAX < length {
+    if Header::MESSAGE_MAX < total {
         return Counted::Refused(Reason::MessageLong);
     }
     if size == 0 {
@@ -53,10 +54,10 @@ pub fn count(length: usize, size: usize) -> Counted
     if Header::PIECE_MAX < size {
         return Counted::Refused(Reason::PieceSize);
     }
-    if length == 0 {
+    if total == 0 {
         return Counted::Frames(1);
     }
-    Counted::Frames((length + (size - 1)) / size)
+    Counted::Frames((total + (size - 1)) / size)
 }
 
 // The piece of a message that the frame with this Index carries.
@@ -75,8 +76,8 @@ fn piece(message: &[u8], size: usize, index: usize) -> &[u8]
 
 // Lays one frame at the output's start, if the output holds it.
 fn lay(header: Header, piece: &[u8], out: &mut [u8]) -> Written
-    ensures { λ r. ⌜ r ≡ laid (frameOf header (now (piece .entry))) (now (out .entry)) ⌝ }
-    ensures { λ r. ⌜ now (out .exit) ≡ landed r (frameOf header (now (piece .entry))) (now (out .entry)) ⌝ }
+    ensures { λ r. ⌜ r ≡ layAnswer (frameOf header (now (piece .entry))) (now (out .entry)) ⌝ }
+    ensures { λ r. ⌜ now (out .exit) ≡ outputOf r (frameOf header (now (piece .entry))) (now (out .entry)) ⌝ }
 {
     let length = Header::SIZE + piece.len();
     if out.len() < length {
@@ -92,7 +93,7 @@ fn lay(header: Header, piece: &[u8], out: &mut [u8]) -> Written
 // that size. No byte past the frame changes, and a refusal changes none.
 pub fn write(e: Envelope, message: &[u8], size: usize, index: usize, out: &mut [u8]) -> Written
     ensures { λ r. ⌜ r ≡ written e (now (message .entry)) size index (now (out .entry)) ⌝ }
-    ensures { λ r. ⌜ now (out .exit) ≡ landed r (frameAt e (now (message .entry)) size index) (now (out .entry)) ⌝ }
+    ensures { λ r. ⌜ now (out .exit) ≡ outputOf r (frameAt e (now (message .entry)) size index) (now (out .entry)) ⌝ }
 {
     match count(message.len(), size) {
         Counted::Refused(reason) => Written::Refused(reason),

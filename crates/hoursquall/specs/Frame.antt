@@ -31,7 +31,7 @@ countAfter (Frames n) before = n
 countAfter (Uncounted reason) before = before
 
 abbrev pub envelopeOf : ℕ → ℕ → ℕ → ℕ → Envelope
-envelopeOf id sender status receiver = record { id = id; sender = sender; receiver = receiver; status = status }
+envelopeOf id sender status receiver = record { id = id; sender = sender; status = status; receiver = receiver }
 
 abbrev pub writeNumber : Written → ℕ
 writeNumber (Frame n) = 0
@@ -40,7 +40,3 @@ writeNumber (Unwritten reason) = Writing.numberOf reason
 abbrev pub lengthAfter : Written → ℕ → ℕ
 lengthAfter (Frame n) before = n
 lengthAfter (Unwritten reason) before = before
-
--- the output after the writer's answer
-abbrev pub outputAfter : Envelope → List ℕ → ℕ → ℕ → List ℕ → List ℕ
-outputAfter e message size index out = Writing.landed (Writing.written e message size index out) (Writing.frameAt e message size index) out

@@ -1,10 +1,11 @@
 // The static library: what C and Rust link. Each function passes numbers and byte slices to the crate
-// that does the work, and its answer back as numbers: 0, or the number of the refusal.
+// that does the work. Where that can refuse, the answer is 0 or the refusal's number, and results go to
+// what the caller lends.
 ghost use mathlib.Core.Path.{_≡_};
 ghost use Rattle.le.specs.Sum.{sum};
 ghost use Rattle.frame.specs.Reading.{parsed};
-ghost use Rattle.frame.specs.Writing.{counted, written};
-ghost use Rattle.hoursquall.specs.Frame.{parseNumber, headerAfter, countNumber, countAfter, writeNumber, lengthAfter, outputAfter, envelopeOf};
+ghost use Rattle.frame.specs.Writing.{counted, written, outputAfter};
+ghost use Rattle.hoursquall.specs.Frame.{parseNumber, headerAfter, countNumber, countAfter, writeNumber, lengthAfter, envelopeOf};
 use frame::read::Parsed;
 use frame::write::Counted;
 use frame::write::Written;
@@ -48,13 +49,13 @@ pub extern "C" fn hs_frame_parse(frame: &[u8], us: u32, header: &mut [u32; 6]) -
     }
 }
 
-// How many frames a message of `length` bytes makes in pieces of `size`.
+// How many frames a message of `total` bytes makes in pieces of `size`.
 #[no_mangle]
-pub extern "C" fn hs_frame_count(length: usize, size: usize, frames: &mut usize) -> u32
-    ensures { λ r. ⌜ r ≡ countNumber (counted length size) ⌝ }
-    ensures { λ _. ⌜ now (frames .exit) ≡ countAfter (counted length size) (now (frames .entry)) ⌝ }
+pub extern "C" fn hs_frame_count(total: usize, size: usize, frames: &mut usize) -> u32
+    ensures { λ r. ⌜ r ≡ countNumber (counted total size) ⌝ }
+    ensures { λ _. ⌜ now (frames .exit) ≡ countAfter (counted total size) (now (frames .entry)) ⌝ }
 {
-    match frame::write::count(length, size) {
+    match frame::write::count(total, size) {
         Counted::Refused(reason) => reason.number(),
         Counted::Frames(n) => {
             *frames = n;
@@ -63,7 +64,7 @@ pub extern "C" fn hs_frame_count(length: usize, size: usize, frames: &mut usize)
     }
 }
 
-// Writes one frame of a message at the start of `out`; `length` receives the frame's length.
+// Writes one frame of a message at the start of `out`; `extent` receives the frame's length.
 #[no_mangle]
 pub extern "C" fn hs_frame_write(
     id: u32,
@@ -74,22 +75,22 @@ pub extern "C" fn hs_frame_write(
     size: usize,
     index: usize,
     out: &mut [u8],
-    length: &mut usize,
+    extent: &mut usize,
 ) -> u32
     ensures { λ r. ⌜ r ≡ writeNumber (written (envelopeOf id sender status receiver) (now (message .entry)) size index (now (out .entry))) ⌝ }
     ensures { λ _. ⌜ now (out .exit) ≡ outputAfter (envelopeOf id sender status receiver) (now (message .entry)) size index (now (out .entry)) ⌝ }
-    ensures { λ _. ⌜ now (length .exit) ≡ lengthAfter (written (envelopeOf id sender status receiver) (now (message .entry)) size index (now (out .entry))) (now (length .entry)) ⌝ }
+    ensures { λ _. ⌜ now (extent .exit) ≡ lengthAfter (written (envelopeOf id sender status receiver) (now (message .entry)) size index (now (out .entry))) (now (extent .entry)) ⌝ }
 {
     let e = frame::Envelope {
         id,
         sender,
-        receiver,
         status,
+        receiver,
     };
     match frame::write::write(e, message, size, index, out) {
         Written::Refused(reason) => reason.number(),
         Written::Frame(n) => {
-            *length = n;
+            *extent = n;
             0
         }
     }

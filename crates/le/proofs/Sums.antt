@@ -4,17 +4,19 @@
 --     passed         and what the loop has in the end
 --     sum-append     the sum of two joined lists, joined at a word's end
 --     sum-replace    the sum after one aligned word is replaced by another
+--     sum-below      a sum of k-byte words is below 256 ^ k
+--     checksum       the word that brings a sum to 0
 -- Assumes nothing.
 use Prim.Native.Nat.{ℕ, zero, suc, _+_, _*_, _-_, _%_, _^_, _≤_, _<_}
 use mathlib.Core.Path.{_≡_, refl, sym, ap, _∙_}
 use mathlib.Core.List.{List, [], _∷_, _++_}
-use native.Mathlib.Nat.{add-mod, mod-add-mod, mod-eq-of-lt, add-assoc, add-zero, suc-mul}
+use native.Mathlib.Nat.{add-mod, mod-add-mod, add-mod-mod, mod-eq-of-lt, mod-lt, mod-self, one-le-pow, add-assoc, add-zero, suc-mul}
 use native.Mathlib.Omega.{arith}
-use lib.ListN.{length, drop, length-drop, length-append, drop-of-length-le}
+use lib.ListN.{length, drop, length-drop, drop-of-length-le}
 use lib.Seq.{drop-nil, drop-drop, drop-append-le, drop-at}
-use Rattle.le.specs.Word.{word}
+use Rattle.le.specs.Word.{word, bytes}
 use Rattle.le.specs.Sum.{total, totalOf, sum}
-use Rattle.le.proofs.Words.{word-nil, word-append}
+use Rattle.le.proofs.Words.{word-nil, word-append, word-own, length-bytes}
 
 total-nil : (k n : ℕ) → total k n [] ≡ 0
 unfolding total
@@ -83,3 +85,21 @@ unfolding sum
 sum-replace k n s v w t p h hv hw =
     rw (mod-add-mod _ _ (word k v), mod-add-mod _ _ (word k w), sum-around k n s w t p h hw, sum-around k n s v t p h hv)
     (ap (λ (x : ℕ). x % 256 ^ k) (omega arith))
+
+pub sum-below : (k : ℕ) (s : List ℕ) → sum k s < 256 ^ k
+unfolding sum
+sum-below k s = mod-lt (totalOf k s) (one-le-pow k 256 (omega arith))
+
+-- with 0 in its place the sum is z; the word that makes it 0 is what z lacks to 256 ^ k
+pub checksum : (k n : ℕ) (s t : List ℕ) → 0 < k → length s ≡ n * k
+    → sum k (s ++ (bytes k ((256 ^ k - sum k (s ++ (bytes k 0 ++ t))) % 256 ^ k) ++ t)) ≡ 0
+checksum k n s t p h =
+    let m = 256 ^ k in
+    let positive : 0 < m = one-le-pow k 256 (omega arith) in
+    let z = sum k (s ++ (bytes k 0 ++ t)) in
+    let lacking = (m - z) % m in
+    let replaced = sum-replace k n s (bytes k 0) (bytes k lacking) t p h (length-bytes k 0) (length-bytes k lacking) in
+    let added : sum k (s ++ (bytes k lacking ++ t)) % m ≡ (z + lacking) % m =
+    rw (word-own k 0 positive, add-zero, word-own k lacking (mod-lt (m - z) positive)) at replaced in
+    let whole : z + (m - z) ≡ m = omega (arith, sum-below k (s ++ (bytes k 0 ++ t))) in
+    sym (mod-eq-of-lt (sum-below k (s ++ (bytes k lacking ++ t)))) ∙ added ∙ rw (add-mod-mod, whole, mod-self)

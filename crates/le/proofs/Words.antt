@@ -1,18 +1,18 @@
 -- The laws of little-endian words, each once, for every width.
---     word-split     a word of j + k bytes is its low j bytes and its high k bytes
 --     word-places    a word is its bytes, each by the weight of its place
 --     word-append    a word within the first of two joined lists
 --     word-one       a word of one byte is the byte
 --     byte-at        the same at a place of a list
 --     word-below     a word of k bytes is below 256 ^ k
 --     word-bytes     the word of a number's bytes is the number
+--     word-own       the same with nothing behind them
 --     bytes-word     the bytes of a word are the bytes that it was read from
 --     length-bytes   a number's k bytes are k bytes
 -- Assumes nothing.
 use Prim.Native.Nat.{ℕ, zero, suc, _+_, _*_, _/_, _%_, _^_, _≤_, _<_}
 use mathlib.Core.Path.{_≡_, refl, ap}
-use mathlib.Core.List.{List, [], _∷_, _++_}
-use native.Mathlib.Nat.{pow-succ', mul-assoc, mul-comm, add-mul, add-zero, zero-add, suc-add}
+use mathlib.Core.List.{List, [], _∷_, _++_, append-nil}
+use native.Mathlib.Nat.{mul-assoc, mul-comm, add-mul, add-zero}
 use native.Mathlib.Omega.{arith}
 use lib.ListN.{length, take, drop, getD}
 use lib.Seq.{getD-drop}
@@ -22,12 +22,6 @@ pub word-nil : (k : ℕ) → word k [] ≡ 0
 unfolding word
 word-nil zero = refl
 word-nil (suc k) = refl
-
-pub word-split : (j k : ℕ) (s : List ℕ) → word (j + k) s ≡ word j s + 256 ^ j * word k (drop j s)
-unfolding word
-word-split zero k s = rw (zero-add k) (omega arith)
-word-split (suc j) k [] = rw (suc-add, word-nil k) (omega arith)
-word-split (suc j) k (b ∷ s) = rw (suc-add, word-split j k s, pow-succ', mul-assoc) (omega arith)
 
 -- the sum of k places, the first of weight p, each next one of 256 times the weight
 abbrev places : ℕ → ℕ → (ℕ → ℕ) → ℕ
@@ -69,6 +63,9 @@ pub word-bytes : (k n : ℕ) (rest : List ℕ) → n < 256 ^ k → word k (bytes
 unfolding word bytes
 word-bytes zero n rest h = omega arith
 word-bytes (suc k) n rest h = rw (word-bytes k (n / 256) rest (omega arith)) (omega arith)
+
+pub word-own : (k n : ℕ) → n < 256 ^ k → word k (bytes k n) ≡ n
+word-own k n h = rw (append-nil (bytes k n)) at (word-bytes k n [] h)
 
 pub bytes-word : (k : ℕ) (s : List ℕ) → AreBytes s → k ≤ length s → bytes k (word k s) ≡ take k s
 unfolding word bytes

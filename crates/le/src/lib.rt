@@ -5,7 +5,15 @@ pub mod word;
 
 ghost use mathlib.Core.Path.{_≡_};
 ghost use Prim.Native.Nat.{min};
+ghost use lib.ListN.{drop};
 ghost use Rattle.le.specs.Copy.{copied};
+
+// The slice from `at` on; empty where `at` is past its end.
+pub fn tail(s: &[u8], at: usize) -> &[u8]
+    ensures { λ r. ⌜ now r ≡ drop at (now (s .entry)) ⌝ }
+{
+    if at < s.len() { &s[at..] } else { &s[..0] }
+}
 
 fn least(a: usize, b: usize) -> usize
     ensures { λ r. ⌜ r ≡ min a b ⌝ }

@@ -1,15 +1,9 @@
 // Words of 1, 2, 4 and 8 bytes: read at any place of a slice, and laid out as bytes. Bytes past the
 // end of the slice count as 0, so there is a word at every place.
+use crate::tail;
 ghost use mathlib.Core.Path.{_≡_};
 ghost use lib.ListN.{drop, getD};
 ghost use Rattle.le.specs.Word.{word, bytes};
-
-// The slice from `at` on; empty where `at` is past its end.
-fn from(s: &[u8], at: usize) -> &[u8]
-    ensures { λ r. ⌜ now r ≡ drop at (now (s .entry)) ⌝ }
-{
-    if at <= s.len() { &s[at..] } else { &s[..0] }
-}
 
 // The byte at `i`; 0 past the end.
 fn byte(s: &[u8], i: usize) -> u8
@@ -18,7 +12,8 @@ fn byte(s: &[u8], i: usize) -> u8
     if i < s.len() { s[i] } else { 0 }
 }
 
-// The words in a slice's first bytes. Each is one flat sum, which compiles to a single load.
+// The words in a slice's first bytes. Each is one flat sum, which compiles to a single load where the
+// length is known to suffice.
 fn first_u16(s: &[u8]) -> u16
     ensures { λ r. ⌜ r ≡ word 2 (now (s .entry)) ⌝ }
 {
@@ -57,19 +52,19 @@ pub fn u8_at(s: &[u8], at: usize) -> u8
 pub fn u16_at(s: &[u8], at: usize) -> u16
     ensures { λ r. ⌜ r ≡ word 2 (drop at (now (s .entry))) ⌝ }
 {
-    first_u16(from(s, at))
+    first_u16(tail(s, at))
 }
 
 pub fn u32_at(s: &[u8], at: usize) -> u32
     ensures { λ r. ⌜ r ≡ word 4 (drop at (now (s .entry))) ⌝ }
 {
-    first_u32(from(s, at))
+    first_u32(tail(s, at))
 }
 
 pub fn u64_at(s: &[u8], at: usize) -> u64
     ensures { λ r. ⌜ r ≡ word 8 (drop at (now (s .entry))) ⌝ }
 {
-    first_u64(from(s, at))
+    first_u64(tail(s, at))
 }
 
 // The bytes of a word.

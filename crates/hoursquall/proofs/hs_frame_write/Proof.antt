@@ -5,8 +5,8 @@ use mathlib.Core.Path.{_≡_, refl, sym, ap, _∙_}
 use mathlib.Core.List.{List}
 use Rattle.frame.specs.declared.Envelope.{Envelope}
 use Rattle.frame.specs.declared.write.Written.{Written}
-use Rattle.frame.specs.Writing.{written, landed, frameAt}
-use Rattle.hoursquall.specs.Frame.{writeNumber, outputAfter, lengthAfter, envelopeOf}
+use Rattle.frame.specs.Writing.{written, frameAt, outputOf, outputAfter}
+use Rattle.hoursquall.specs.Frame.{writeNumber, lengthAfter, envelopeOf}
 use borrow.Author.Needs.{needs}
 use Rattle.hoursquall.proofs.hs_frame_write.Statement.{statement}
 use Rattle.hoursquall.proofs.hs_frame_write.Tie as tie
@@ -14,7 +14,7 @@ use Rattle.hoursquall.proofs.hs_frame_write.Tie as tie
 -- the answer `result` is of the form w, so the numbers that w gives are those of the answer
 handed : (e : Envelope) (m : List ℕ) (size index : ℕ) (out last : List ℕ) (before number : ℕ) (result w : Written)
     → result ≡ w
-    → (result ≡ written e m size index out) × (last ≡ landed result (frameAt e m size index) out)
+    → (result ≡ written e m size index out) × (last ≡ outputOf result (frameAt e m size index) out)
     → number ≡ writeNumber w
     → (number ≡ writeNumber (written e m size index out))
     × ((last ≡ outputAfter e m size index out) × (lengthAfter w before ≡ lengthAfter (written e m size index out) before))
@@ -46,7 +46,7 @@ returns c =
     (args .index)
     (args .out .now)
     _
-    (args .length .now)
+    (args .extent .now)
     _
     _
     _
@@ -67,7 +67,7 @@ returns-2 c =
     (args .index)
     (args .out .now)
     _
-    (args .length .now)
+    (args .extent .now)
     _
     _
     _

@@ -22,23 +22,23 @@ returns-3 c =
     let args = c .before .before .before .before .before .args in
     Reading.wrong-type (args .us) (args .frame .now) (search needs) (search needs) (λ e. c .if3 .taken (c .before .u8-at .ensures ∙ e))
 
-of-requires : tie.Need-of-requires
-of-requires c κs = search needs
+read-requires : tie.Need-read-requires
+read-requires c κs = search needs
 
 returns-4 : tie.Need-returns-4
 returns-4 c =
     let args = c .before .before .before .before .before .before .before .before .args in
     let kind = sym (c .before .before .before .before .u8-at .ensures) ∙ c .before .before .before .if3 .left in
-    let receiver = ap (λ (h : Header). h .receiver) (c .before .before .of .ensures) in
+    let receiver = ap (λ (h : Header). h .receiver) (c .before .before .read .ensures) in
     Reading.other (args .us) (args .frame .now) (search needs) (search needs) kind (λ e. c .if4 .taken (receiver ∙ e))
 
 returns-5 : tie.Need-returns-5
 returns-5 c =
     let args = c .before .before .before .before .before .before .before .before .args in
     let kind = sym (c .before .before .before .before .u8-at .ensures) ∙ c .before .before .before .if3 .left in
-    let receiver = ap (λ (h : Header). h .receiver) (c .before .before .of .ensures) in
-    ap Parsed.Header (c .before .before .of .ensures) ∙ Reading.header (args .us) (args .frame .now) (search needs) (search needs) kind (sym receiver ∙ c .if4 .left)
+    let receiver = ap (λ (h : Header). h .receiver) (c .before .before .read .ensures) in
+    ap Parsed.Header (c .before .before .read .ensures) ∙ Reading.header (args .us) (args .frame .now) (search needs) (search needs) kind (sym receiver ∙ c .if4 .left)
 
 pub parse-spec : {M : Type 1} → statement M
 parse-spec =
-    tie.close (tie.spec returns returns-2 u8-at-requires returns-3 of-requires returns-4 returns-5)
+    tie.close (tie.spec returns returns-2 u8-at-requires returns-3 read-requires returns-4 returns-5)

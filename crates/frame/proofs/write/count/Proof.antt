@@ -1,32 +1,27 @@
 -- `frame::write::count` meets its contract: at each `return` the tests that led there say which answer it is.
 -- Assumes nothing.
-use borrow.Author.Tests.{lt-ltb, le-ltb, eq-eqb, ne-eqb}
-use Rattle.frame.specs.Writing.{counted, countOf}
+use mathlib.Core.Path.{sym, ap, _∙_}
+use Rattle.frame.specs.Writing.{countOf}
+use Rattle.frame.specs.declared.write.Counted.the-variants.{Frames}
+use Rattle.frame.proofs.Counting.{too-long, no-size, large-size, counts, count-empty, count-more}
 use borrow.Author.Needs.{needs}
 use Rattle.frame.proofs.write.count.Statement.{statement}
 use Rattle.frame.proofs.write.count.Tie as tie
 
 returns : tie.Need-returns
-unfolding counted
-returns c = rw (lt-ltb _ _ (c .if1 .taken))
+returns c = too-long (c .before .args .total) (c .before .args .size) (search needs)
 
 returns-2 : tie.Need-returns-2
-unfolding counted
-returns-2 c = rw (le-ltb _ _ (c .before .if1 .left), eq-eqb _ _ (c .if2 .taken))
+returns-2 c = let args = c .before .before .args in no-size (args .total) (args .size) (search needs) (c .if2 .taken)
 
 returns-3 : tie.Need-returns-3
-unfolding counted
-returns-3 c = rw (le-ltb _ _ (c .before .before .if1 .left), ne-eqb _ _ (c .before .if2 .left), lt-ltb _ _ (c .if3 .taken))
+returns-3 c = let args = c .before .before .before .args in large-size (args .total) (args .size) (search needs) (search needs)
 
 returns-4 : tie.Need-returns-4
-unfolding counted countOf
 returns-4 c =
-    rw (
-      le-ltb _ _ (c .before .before .before .if1 .left),
-      ne-eqb _ _ (c .before .before .if2 .left),
-      le-ltb _ _ (c .before .if3 .left),
-      eq-eqb _ _ (c .if4 .taken),
-    )
+    let args = c .before .before .before .before .args in
+    let one = ap (λ n. countOf n (args .size)) (c .if4 .taken) ∙ count-empty (args .size) in
+    ap Frames (sym one) ∙ counts (args .total) (args .size) (search needs) (search needs) (search needs)
 
 sub-t7 : tie.Need-sub-t7
 sub-t7 c = search needs
@@ -38,14 +33,10 @@ div-t9 : tie.Need-div-t9
 div-t9 c = search needs
 
 returns-5 : tie.Need-returns-5
-unfolding counted countOf
 returns-5 c =
-    rw (
-      le-ltb _ _ (c .before .before .before .if1 .left),
-      ne-eqb _ _ (c .before .before .if2 .left),
-      le-ltb _ _ (c .before .if3 .left),
-      ne-eqb _ _ (c .if4 .left),
-    )
+    let args = c .before .before .before .before .args in
+    let more = count-more (args .total) (args .size) (search needs) in
+    ap Frames (sym more) ∙ counts (args .total) (args .size) (search needs) (search needs) (search needs)
 
 pub count-spec : {M : Type 1} → statement M
 count-spec =

@@ -6,7 +6,7 @@ use mathlib.Core.List.{List}
 use Rattle.le.specs.Copy.{copied}
 use Rattle.le.proofs.Parts.{copied-behind}
 use Rattle.frame.specs.Layout.{headerBytes}
-use Rattle.frame.proofs.Writing.{length-header, laid-short, laid-fits}
+use Rattle.frame.proofs.Writing.{length-header, lay-short, lay-fits}
 use borrow.Author.Needs.{needs}
 use Rattle.frame.proofs.write.lay.Statement.{statement}
 use Rattle.frame.proofs.write.lay.Tie as tie
@@ -17,7 +17,7 @@ add-length c = search needs
 returns : tie.Need-returns
 returns c =
     let args = c .before .before .before .args in
-    (laid-short (args .header) (args .piece .now) (args .out .now) (c .if1 .taken), refl)
+    (lay-short (args .header) (args .piece .now) (args .out .now) (c .if1 .taken), refl)
 
 bytes-requires : tie.Need-bytes-requires
 bytes-requires c κs = search needs
@@ -51,7 +51,7 @@ returns-2 c =
     let out = args .out .now in
     let fits = c .before .before .before .before .before .before .before .before .before .before .if1 .left in
     let head-landed = c .before .before .before .before .before .before .copy .ensures ∙ ap (λ (l : List ℕ). copied l out) (c .before .before .before .before .before .before .before .before .before .bytes .ensures) in
-    (laid-fits h p out fits, copied-behind (headerBytes h) p out _ _ 24 (length-header h) fits head-landed (c .before .before .copy2 .ensures))
+    (lay-fits h p out fits, copied-behind (headerBytes h) p out _ _ 24 (length-header h) fits head-landed (c .before .before .copy2 .ensures))
 
 pub lay-spec : {M : Type 1} → statement M
 lay-spec =

@@ -4,8 +4,8 @@ use borrow.Author.Needs.{needs}
 use Rattle.le.proofs.word.u64_at.Statement.{statement}
 use Rattle.le.proofs.word.u64_at.Tie as tie
 
-from-requires : tie.Need-from-requires
-from-requires c κs = search needs
+tail-requires : tie.Need-tail-requires
+tail-requires c κs = search needs
 
 first-u64-requires : tie.Need-first-u64-requires
 first-u64-requires c κs = search needs
@@ -14,4 +14,4 @@ returns : tie.Need-returns
 returns c = cc
 
 pub u64-at-spec : {M : Type 1} → statement M
-u64-at-spec = tie.close (tie.spec from-requires first-u64-requires returns)
+u64-at-spec = tie.close (tie.spec tail-requires first-u64-requires returns)

@@ -1,12 +1,12 @@
--- `frame::read::data` meets its contract: the part from byte 24 on is all that `drop` leaves.
+-- `le::tail` meets its contract: the part from `at` on is all that `drop` leaves.
 -- Assumes nothing.
 use mathlib.Core.Path.{sym}
 use native.Mathlib.Omega.{arith}
 use lib.ListN.{drop-of-length-le}
 use Rattle.le.proofs.Parts.{rest}
 use borrow.Author.Needs.{needs}
-use Rattle.frame.proofs.read.data.Statement.{statement}
-use Rattle.frame.proofs.read.data.Tie as tie
+use Rattle.le.proofs.tail.Statement.{statement}
+use Rattle.le.proofs.tail.Tie as tie
 
 sub-result : tie.Need-sub-result
 sub-result c = search needs
@@ -21,13 +21,13 @@ slice-aggregate-result : tie.Need-slice-aggregate-result
 slice-aggregate-result c = search needs
 
 returns : tie.Need-returns
-returns c = rest (c .before .before .args .frame .now) 24
+returns c = let a = c .before .before .args in rest (a .s .now) (a .at)
 
 returns-2 : tie.Need-returns-2
-returns-2 c = sym (drop-of-length-le (c .before .before .args .frame .now) {i = 24} (omega arith))
+returns-2 c = let a = c .before .before .args in sym (drop-of-length-le (a .s .now) {i = a .at} (omega arith))
 
-pub data-spec : {M : Type 1} → statement M
-data-spec =
+pub tail-spec : {M : Type 1} → statement M
+tail-spec =
     tie.close
     (tie.spec
     sub-result

@@ -1,8 +1,8 @@
--- `frame::Header::of` meets its contract: each field is the word at its place.
+-- `frame::Header::read` meets its contract: each field is the word at its place.
 -- Assumes nothing.
 use borrow.Author.Needs.{needs}
-use Rattle.frame.proofs.Header.of.Statement.{statement}
-use Rattle.frame.proofs.Header.of.Tie as tie
+use Rattle.frame.proofs.Header.read.Statement.{statement}
+use Rattle.frame.proofs.Header.read.Tie as tie
 
 u16-at-requires : tie.Need-u16-at-requires
 u16-at-requires c κs = search needs
@@ -25,8 +25,8 @@ u32-at-requires-5 c κs = search needs
 returns : tie.Need-returns
 returns c = cc
 
-pub of-spec : {M : Type 1} → statement M
-of-spec =
+pub read-spec : {M : Type 1} → statement M
+read-spec =
     tie.close
     (tie.spec
     u16-at-requires
