@@ -57,18 +57,35 @@ fn is_function(word: &str) -> bool {
     word.starts_with("hs_") && word.contains('(')
 }
 
+/// Sizes, places of the header's words, and refusals by their numbers in document 01.
+const CONSTANTS: [(&str, usize); 20] = [
+    ("HS_HEADER_SIZE", hoursquall::HEADER_SIZE),
+    ("HS_FRAME_MAX", hoursquall::FRAME_MAX),
+    ("HS_PIECE_MAX", hoursquall::PIECE_MAX),
+    ("HS_MESSAGE_MAX", hoursquall::MESSAGE_MAX),
+    ("HS_HEADER_INDEX", 0),
+    ("HS_HEADER_ID", 1),
+    ("HS_HEADER_SENDER", 2),
+    ("HS_HEADER_RECEIVER", 3),
+    ("HS_HEADER_STATUS", 4),
+    ("HS_HEADER_TOTAL", 5),
+    ("HS_HEADER_WORDS", 6),
+    ("HS_OK", 0),
+    ("HS_REFUSED_FRAME_SHORT", 1),
+    ("HS_REFUSED_FRAME_LONG", 2),
+    ("HS_REFUSED_WRONG_TYPE", 3),
+    ("HS_REFUSED_OTHER_RECEIVER", 4),
+    ("HS_REFUSED_MESSAGE_LONG", 10),
+    ("HS_REFUSED_PIECE_SIZE", 12),
+    ("HS_REFUSED_NO_FRAME", 13),
+    ("HS_REFUSED_OUTPUT_SHORT", 14),
+];
+
 #[test]
-fn sizes_agree() {
+fn constants_agree() {
     let header = header();
-    let sizes = [
-        ("HS_HEADER_SIZE", hoursquall::HEADER_SIZE),
-        ("HS_FRAME_MAX", hoursquall::FRAME_MAX),
-        ("HS_PIECE_MAX", hoursquall::PIECE_MAX),
-        ("HS_MESSAGE_MAX", hoursquall::MESSAGE_MAX),
-        ("HS_HEADER_WORDS", 6),
-    ];
-    for (name, size) in sizes {
-        let definition = format!(" {name} = {size},");
+    for (name, value) in CONSTANTS {
+        let definition = format!(" {name} = {value},");
         assert!(header.contains(&definition), "missing: {definition}");
     }
 }
