@@ -1,4 +1,5 @@
-/* Hoursquall: UBIOS message frames and the checksums of UBIOS and SFI tables.
+/* Hoursquall: UBIOS message frames, their reassembly into messages, and the checksums
+ * of UBIOS and SFI tables.
  *
  * Link target/staticlib/libhoursquall.a (x86-64, System V calling convention).
  *
@@ -35,14 +36,29 @@ enum {
     HS_HEADER_WORDS = 6,
 };
 
+/* How many numbers a state of the reassembly has, and a message carried words. */
+enum {
+    HS_STATE_NUMBERS = 7,
+    HS_WORDS = 4,
+};
+
 /* Answers. A refusal is the first in its function's list whose condition holds. */
 enum {
     HS_OK = 0,
+    HS_MORE = 0,                   /* reassembly: more frames are wanted */
+    HS_DELIVERED = 100,            /* reassembly: a message is complete */
     HS_REFUSED_FRAME_SHORT = 1,    /* frame under HS_HEADER_SIZE bytes */
     HS_REFUSED_FRAME_LONG = 2,     /* frame over HS_FRAME_MAX bytes */
     HS_REFUSED_WRONG_TYPE = 3,     /* byte 0 is not 0x11: type 1, version 1 */
     HS_REFUSED_OTHER_RECEIVER = 4, /* Receiver ID is not ours */
-    HS_REFUSED_MESSAGE_LONG = 10,  /* message over HS_MESSAGE_MAX bytes */
+    HS_REFUSED_NOTHING_OPEN = 5,   /* Index not 0, no message is open */
+    HS_REFUSED_OUT_OF_ORDER = 6,   /* Index not 0, and not the next one */
+    HS_REFUSED_OTHER_WORDS = 7,    /* Index is the next one, a carried word differs */
+    HS_REFUSED_NO_DATA = 8,        /* no data, though Data Total Size is not 0 */
+    HS_REFUSED_TOO_MUCH_DATA = 9,  /* more data than is still missing */
+    HS_REFUSED_MESSAGE_LONG = 10,  /* message over HS_MESSAGE_MAX bytes; in the
+                                      reassembly: Index 0, over that or the buffer */
+    HS_REFUSED_BAD_STATE = 11,     /* the state is neither fresh nor consistent */
     HS_REFUSED_PIECE_SIZE = 12,    /* piece size 0 or over HS_PIECE_MAX */
     HS_REFUSED_NO_FRAME = 13,      /* the message has no frame of that Index */
     HS_REFUSED_OUTPUT_SHORT = 14,  /* output shorter than the frame */
@@ -72,6 +88,22 @@ uint32_t hs_frame_write(uint32_t id, uint32_t sender, uint32_t status,
                         uint32_t receiver, const uint8_t *message,
                         size_t message_len, size_t piece_size, size_t index,
                         uint8_t *out, size_t out_len, size_t *frame_len);
+
+/* Takes one frame for receiver us; its message grows in buffer. HS_DELIVERED: words
+ * holds the message's Message ID, Sender ID, Output Size or Returned Status, and Data
+ * Total Size, and the message is as many bytes at the start of buffer. HS_MORE: words
+ * is unchanged. Both change only those bytes of buffer that the frame's data fills.
+ * Refusals 11, 1, 2, 3, 4, 5, 6, 7, 10, 8, 9: words and buffer are unchanged.
+ *
+ * state[0] is 0: fresh, and the other six don't count, so zeroed memory is fresh.
+ * state[0] is 1: open, with the four words as above, the next Index, and the number of
+ * bytes filled. It is consistent if each word is below 2^32, 1 <= next <= filled < Data
+ * Total Size, and that is at most HS_MESSAGE_MAX and buffer_len. Any other state gets
+ * 11. The call leaves the state for the next one: as before with 1 to 4, else fresh
+ * unless more is wanted. Fresh is written as seven zeros. */
+uint32_t hs_reassembly_step(uint64_t state[HS_STATE_NUMBERS], const uint8_t *frame,
+                            size_t frame_len, uint32_t us, uint8_t *buffer,
+                            size_t buffer_len, uint32_t words[HS_WORDS]);
 
 #ifdef __cplusplus
 }

@@ -4,9 +4,12 @@ use mathlib.Core.Path.{refl}
 use Rattle.le.specs.Word.{word, bytes}
 use Rattle.le.specs.Sum.{total, totalOf, sum}
 use Rattle.frame.specs.Layout.{headerBytes}
+use Rattle.frame.specs.Reading.{parsed}
 use Rattle.frame.specs.Writing.{countOf, counted, written}
+use Rattle.reassembly.specs.Step.{consistent, sameWords, accept, begin, proceed, received, stepOf}
+use Rattle.reassembly.specs.Run.{verdicts}
 use Rattle.cases.specs.Cases.{same, isCount, isLength, holds, allHold, starred, StarredHold}
 
 pub starred-hold : StarredHold
-unfolding word bytes total totalOf sum headerBytes countOf counted written same isCount isLength holds allHold starred
+unfolding word bytes total totalOf sum headerBytes parsed countOf counted written consistent sameWords accept begin proceed received stepOf verdicts same isCount isLength holds allHold starred
 starred-hold = refl

@@ -1,16 +1,21 @@
 -- Document 01, "Numbers to check by": the starred numbers of what is built so far, as one table and one statement over it. Each row is a
--- question to the definitions that the code is proved to meet, and the answer that the document gives. Those of the reassembly ("the third
--- gets 6"), the notice ring, the UBIOS root and the SFI tables join with their crates.
+-- question to the definitions that the code is proved to meet, and the answer that the document gives. Those of the notice ring, the UBIOS root and
+-- the SFI tables join with their crates.
 -- Assumes nothing.
 use Prim.Native.Nat.{ℕ, _+_}
 use mathlib.Core.Bool.{Bool, true, false, _&&_}
 use mathlib.Core.Path.{_≡_}
-use mathlib.Core.List.{List, [], _∷_}
+use mathlib.Core.List.{List, [], _∷_, map}
 use lib.Dec.{eqb}
 use lib.ListN.{length, take, replicate}
 use Rattle.le.specs.Sum.{sum}
-use Rattle.frame.specs.Writing.{counted, written, outputAfter}
+use Rattle.frame.specs.Writing.{counted, written, frameAt, outputAfter}
 use Rattle.frame.specs.declared.Envelope.{Envelope}
+use Rattle.reassembly.specs.Step.{numberOf}
+use Rattle.reassembly.specs.Run.{verdicts}
+use Rattle.reassembly.specs.declared.State.the-variants.{Fresh}
+use Rattle.reassembly.specs.declared.Verdict.{Verdict}
+use Rattle.reassembly.specs.declared.Verdict.the-variants.{More, Delivered, Refused}
 use Rattle.frame.specs.declared.write.Counted.{Counted}
 use Rattle.frame.specs.declared.write.Counted.the-variants.{Frames, Refused as Uncounted}
 use Rattle.frame.specs.declared.write.Written.{Written}
@@ -24,6 +29,8 @@ pub data Case : Type 0 where
   counts : ℕ → ℕ → ℕ → Case
   -- how long the frame of this Index is, written to an output of 256 zero bytes
   frames : Envelope → List ℕ → ℕ → ℕ → ℕ → Case
+  -- the refusals, call by call, of the frames with these Indices, from a fresh start with a buffer of 256 zero bytes; 0 where there is none
+  refuses : Envelope → List ℕ → ℕ → List ℕ → List ℕ → Case
   -- the first bytes of that output
   writes : Envelope → List ℕ → ℕ → ℕ → List ℕ → Case
 
@@ -42,7 +49,12 @@ unfoldable pub isLength : Written → ℕ → Bool
 isLength (Frame n) expected = eqb n expected
 isLength (Unwritten reason) expected = false
 
--- an output of 256 zero bytes
+abbrev pub refusalOf : Verdict → ℕ
+refusalOf More = 0
+refusalOf (Delivered words n) = 0
+refusalOf (Refused reason) = numberOf reason
+
+-- 256 zero bytes
 abbrev pub output : List ℕ
 output = replicate 256 0
 
@@ -53,6 +65,8 @@ holds (counts total size expected) = isCount (counted total size) expected
 holds (frames e message size index expected) = isLength (written e message size index output) expected
 holds (writes e message size index expected) =
     same (take (length expected) (outputAfter e message size index output)) expected
+holds (refuses e message size indices expected) =
+    same (map refusalOf (verdicts (e .receiver) Fresh output (map (frameAt e message size) indices))) expected
 
 unfoldable pub allHold : List Case → Bool
 unfolding holds
@@ -77,6 +91,8 @@ starred =
     -- the first is 11 00 00 00 04 03 02 01 0A 00 00 00 0B 00 00 00 FF FF FF FF 05 00 00 00 01 02
     ∷ writes envelope message 2 0
     (0x11 ∷ 0 ∷ 0 ∷ 0 ∷ 4 ∷ 3 ∷ 2 ∷ 1 ∷ 10 ∷ 0 ∷ 0 ∷ 0 ∷ 11 ∷ 0 ∷ 0 ∷ 0 ∷ 0xFF ∷ 0xFF ∷ 0xFF ∷ 0xFF ∷ 5 ∷ 0 ∷ 0 ∷ 0 ∷ 1 ∷ 2 ∷ [])
+    -- without the second, the third gets 6
+    ∷ refuses envelope message 2 (0 ∷ 2 ∷ []) (0 ∷ 6 ∷ [])
     -- 4,096 bytes at 232: 18 frames, the last with 152
     ∷ counts 4096 232 18
     ∷ frames envelope (replicate 4096 7) 232 17 (24 + 152)

@@ -1,11 +1,13 @@
-// Frames three messages as a towed head would send them, takes one frame out, and prints the header of
-// each frame that is left, as it is read back.
+// A cable: three messages are framed as a towed head sends them, the cable loses a frame, and the deck
+// computer reassembles what arrives. Each frame has a line with its header and what came of it.
 use frame::Envelope;
 use frame::Header;
 use frame::read::Parsed;
 use frame::write::Counted;
 use frame::write::Written;
 use libc::STDOUT_FILENO;
+use reassembly::State;
+use reassembly::Verdict;
 
 // The towed head, and the deck computer that it sends to.
 const HEAD: u32 = 10;
@@ -22,43 +24,53 @@ fn print_number(n: u64) {
     io::print_decimal(STDOUT_FILENO, n);
 }
 
-// A word of a header and its value.
+// A name and a value.
 fn print_word(name: &[u8], value: u32) {
     print(name);
     print_number(value as u64);
 }
 
-fn print_refusal(number: u32) {
-    print_word(b"  refused with ", number);
-    print(b"\n");
-}
-
 fn print_header(h: Header) {
     let words = h.words;
-    print_word(b": index ", h.index as u32);
+    print_word(b"  index ", h.index as u32);
     print_word(b", message ", words.id);
     print_word(b", sender ", words.sender);
     print_word(b", receiver ", h.receiver);
-    print_word(b", status ", words.status);
     print_word(b", total ", words.total);
-    print(b"\n");
 }
 
-fn print_frame(frame: &[u8]) {
-    print(b"  ");
-    print_number(frame.len() as u64);
-    print(b" bytes");
-    match frame::read::parse(frame, DECK) {
-        Parsed::Header(h) => print_header(h),
-        Parsed::Refused(reason) => print_refusal(reason.number()),
+// The first `n` bytes of a buffer.
+fn print_start(buffer: &[u8], n: usize) {
+    if n <= buffer.len() {
+        print(&buffer[..n]);
     }
 }
 
-// The frame at an output's start.
-fn print_start(out: &[u8], length: usize) {
-    if length <= out.len() {
-        print_frame(&out[..length]);
+fn print_verdict(verdict: Verdict, buffer: &[u8]) {
+    match verdict {
+        Verdict::More => print(b": more wanted\n"),
+        Verdict::Delivered(words, n) => {
+            print_word(b": delivered, status ", words.status);
+            print(b": \"");
+            print_start(buffer, n);
+            print(b"\"\n");
+        }
+        Verdict::Refused(reason) => {
+            print_word(b": refused with ", reason.number());
+            print(b"\n");
+        }
     }
+}
+
+// A frame that arrives.
+fn receive(state: State, frame: &[u8], buffer: &mut [u8]) -> State {
+    if let Parsed::Header(h) = frame::read::parse(frame, DECK) {
+        print_header(h);
+    }
+    let answer = reassembly::step(state, frame, DECK, buffer);
+    let verdict = answer.verdict;
+    print_verdict(verdict, buffer);
+    answer.state
 }
 
 // The cable loses the second frame of the second message.
@@ -66,29 +78,43 @@ fn is_lost(id: u32, index: usize) -> bool {
     id == 2 && index == 1
 }
 
-fn send_frame(e: Envelope, message: &[u8], index: usize) {
-    let mut out = [0u8; Header::FRAME_MAX];
-    match frame::write::write(e, message, PIECE, index, &mut out) {
-        Written::Frame(length) => {
-            if is_lost(e.id, index) {
-                print(b"  lost\n");
-            } else {
-                print_start(&out, length);
-            }
-        }
-        Written::Refused(reason) => print_refusal(reason.number()),
+// The frame at an output's start.
+fn receive_start(state: State, out: &[u8], length: usize, buffer: &mut [u8]) -> State {
+    if length <= out.len() {
+        return receive(state, &out[..length], buffer);
     }
+    state
 }
 
-fn send_frames(e: Envelope, message: &[u8], frames: usize) {
+fn send_frame(state: State, e: Envelope, message: &[u8], index: usize, buffer: &mut [u8]) -> State {
+    if is_lost(e.id, index) {
+        print(b"  lost\n");
+        return state;
+    }
+    let mut out = [0u8; Header::FRAME_MAX];
+    let Written::Frame(length) = frame::write::write(e, message, PIECE, index, &mut out) else {
+        return state;
+    };
+    receive_start(state, &out, length, buffer)
+}
+
+fn send_frames(
+    state: State,
+    e: Envelope,
+    message: &[u8],
+    frames: usize,
+    buffer: &mut [u8],
+) -> State {
+    let mut now = state;
     let mut index = 0;
     while index < frames {
-        send_frame(e, message, index);
+        now = send_frame(now, e, message, index, buffer);
         index += 1;
     }
+    now
 }
 
-fn send(id: u32, message: &[u8]) {
+fn send(state: State, id: u32, message: &[u8], buffer: &mut [u8]) -> State {
     print_word(b"message ", id);
     print(b", ");
     print_number(message.len() as u64);
@@ -100,25 +126,30 @@ fn send(id: u32, message: &[u8]) {
         receiver: DECK,
     };
     match frame::write::count(message.len(), PIECE) {
-        Counted::Frames(frames) => send_frames(e, message, frames),
-        Counted::Refused(reason) => print_refusal(reason.number()),
+        Counted::Frames(frames) => send_frames(state, e, message, frames, buffer),
+        Counted::Refused(reason) => {
+            print_word(b"  refused with ", reason.number());
+            print(b"\n");
+            state
+        }
     }
 }
 
-fn send_file(id: u32, path: &[u8]) {
+fn send_file(state: State, id: u32, path: &[u8], buffer: &mut [u8]) -> State {
     let fd = os::open_read(path);
     if fd < 0 {
         os::fail(path);
-        return;
+        return state;
     }
     let mut message = io::large_buffer();
     let n = io::read_full(fd, &mut message);
     libc::close(fd);
-    send(id, &message[..n]);
+    send(state, id, &message[..n], buffer)
 }
 
 fn main() {
-    send_file(1, b"sound-speed");
-    send_file(2, b"ping");
-    send_file(3, b"silence");
+    let mut buffer = [0u8; Header::MESSAGE_MAX];
+    let first = send_file(State::Fresh, 1, b"sound-speed", &mut buffer);
+    let second = send_file(first, 2, b"ping", &mut buffer);
+    send_file(second, 3, b"depth", &mut buffer);
 }

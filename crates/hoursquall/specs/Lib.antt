@@ -1,2 +1,3 @@
 -- How the answers of the crates are handed out as numbers.
 pub mod Frame
+pub mod Reassembly

@@ -5,10 +5,18 @@ ghost use mathlib.Core.Path.{_≡_};
 ghost use Rattle.le.specs.Sum.{sum};
 ghost use Rattle.frame.specs.Reading.{parsed};
 ghost use Rattle.frame.specs.Writing.{counted, written, outputAfter};
+ghost use Rattle.reassembly.specs.Step.{stepOf};
+ghost use Rattle.hoursquall.specs.Reassembly.{stateOf, blockOf, verdictNumber, wordsAfter};
 ghost use Rattle.hoursquall.specs.Frame.{parseNumber, headerAfter, countNumber, countAfter, writeNumber, lengthAfter, envelopeOf};
+
+mod state;
+
 use frame::read::Parsed;
 use frame::write::Counted;
 use frame::write::Written;
+use reassembly::Verdict;
+use state::block_of;
+use state::state_of;
 
 // The bytes, added up modulo 2^8.
 #[no_mangle]
@@ -93,5 +101,35 @@ pub extern "C" fn hs_frame_write(
             *extent = n;
             0
         }
+    }
+}
+
+// Takes one frame into a reassembly. `state` is a block of seven numbers (see `stateOf`), `words` receives
+// the carried words of a message that is delivered.
+#[no_mangle]
+pub extern "C" fn hs_reassembly_step(
+    state: &mut [u64; 7],
+    frame: &[u8],
+    us: u32,
+    buffer: &mut [u8],
+    words: &mut [u32; 4],
+) -> u32
+    ensures { λ r. ⌜ r ≡ verdictNumber (stepOf us (stateOf (now (state .entry))) (now (buffer .entry)) (now (frame .entry)) .answer .verdict) ⌝ }
+    ensures { λ _. ⌜ now (state .exit) ≡ blockOf (stepOf us (stateOf (now (state .entry))) (now (buffer .entry)) (now (frame .entry)) .answer .state) ⌝ }
+    ensures { λ _. ⌜ now (buffer .exit) ≡ stepOf us (stateOf (now (state .entry))) (now (buffer .entry)) (now (frame .entry)) .buffer ⌝ }
+    ensures { λ _. ⌜ now (words .exit) ≡ wordsAfter (stepOf us (stateOf (now (state .entry))) (now (buffer .entry)) (now (frame .entry)) .answer .verdict) (now (words .entry)) ⌝ }
+{
+    let block = *state;
+    let answer = reassembly::step(state_of(block), frame, us, buffer);
+    let next = answer.state;
+    *state = block_of(next);
+    let verdict = answer.verdict;
+    match verdict {
+        Verdict::More => 0,
+        Verdict::Delivered(w, _) => {
+            *words = [w.id, w.sender, w.status, w.total];
+            100
+        }
+        Verdict::Refused(reason) => reason.number(),
     }
 }

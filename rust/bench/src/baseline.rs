@@ -26,6 +26,11 @@ pub fn sum32(bytes: &[u8]) -> u32 {
 
 #[inline(never)]
 pub fn parse(frame: &[u8], us: u32, header: &mut [u32; 6]) -> u32 {
+    read_header(frame, us, header)
+}
+
+#[inline(always)]
+fn read_header(frame: &[u8], us: u32, header: &mut [u32; 6]) -> u32 {
     if frame.len() < HEADER_SIZE {
         return 1;
     }
@@ -97,6 +102,78 @@ pub fn write(
     out[HEADER_SIZE..length].copy_from_slice(piece);
     *frame_len = length;
     0
+}
+
+#[inline(never)]
+pub fn step(
+    state: &mut [u64; 7],
+    frame: &[u8],
+    us: u32,
+    buffer: &mut [u8],
+    words: &mut [u32; 4],
+) -> u32 {
+    if !is_state(state, buffer.len()) {
+        *state = [0; 7];
+        return 11;
+    }
+    if state[0] == 0 {
+        *state = [0; 7];
+    }
+    let mut header = [0; 6];
+    let refusal = read_header(frame, us, &mut header);
+    if refusal != 0 {
+        return refusal;
+    }
+    let answer = take(state, &header, &frame[HEADER_SIZE..], buffer);
+    if answer == 100 {
+        *words = [header[1], header[2], header[4], header[5]];
+    }
+    if answer != 0 {
+        *state = [0; 7];
+    }
+    answer
+}
+
+/// Fresh or consistent.
+#[inline(always)]
+fn is_state(&[kind, id, sender, status, total, next, filled]: &[u64; 7], buffer: usize) -> bool {
+    let ordered = 1 <= next && next <= filled && filled < total;
+    let fits = total <= 4096 && total <= buffer as u64;
+    kind == 0 || kind == 1 && (id | sender | status) >> 32 == 0 && ordered && fits
+}
+
+/// What a frame that parses leads to. A state in which more is wanted is written here.
+#[inline(always)]
+fn take(state: &mut [u64; 7], header: &[u32; 6], data: &[u8], buffer: &mut [u8]) -> u32 {
+    let [index, id, sender, _, status, total] = header.map(u64::from);
+    if index == 0 {
+        if total > 4096 || total > buffer.len() as u64 {
+            return 10;
+        }
+        *state = [1, id, sender, status, total, 0, 0];
+    } else if state[0] == 0 {
+        return 5;
+    } else if state[5] != index {
+        return 6;
+    } else if (state[1], state[2], state[3], state[4]) != (id, sender, status, total) {
+        return 7;
+    }
+    if data.is_empty() && total != 0 {
+        return 8;
+    }
+    let start = state[6] as usize;
+    if data.len() > total as usize - start {
+        return 9;
+    }
+    let filled = start + data.len();
+    buffer[start..filled].copy_from_slice(data);
+    state[5] = index + 1;
+    state[6] = filled as u64;
+    if filled == total as usize {
+        100
+    } else {
+        0
+    }
 }
 
 fn word_at(bytes: &[u8], at: usize) -> u32 {

@@ -57,3 +57,26 @@ pub fn write(
         )
     }
 }
+
+#[inline(always)]
+pub fn step(
+    state: &mut [u64; 7],
+    frame: &[u8],
+    us: u32,
+    buffer: &mut [u8],
+    words: &mut [u32; 4],
+) -> u32 {
+    // SAFETY: each pointer and length are those of one slice; what is written is borrowed
+    // exclusively.
+    unsafe {
+        raw::hs_reassembly_step(
+            state,
+            frame.as_ptr(),
+            frame.len(),
+            us,
+            buffer.as_mut_ptr(),
+            buffer.len(),
+            words,
+        )
+    }
+}

@@ -19,6 +19,7 @@ const PIECE: usize = 232;
 type Parse = fn(&[u8], u32, &mut [u32; 6]) -> u32;
 type Count = fn(usize, usize, &mut usize) -> u32;
 type Write = fn(u32, u32, u32, u32, &[u8], usize, usize, &mut [u8], &mut usize) -> u32;
+type Step = fn(&mut [u64; 7], &[u8], u32, &mut [u8], &mut [u32; 4]) -> u32;
 
 fn main() {
     print_head();
@@ -27,6 +28,8 @@ fn main() {
     write("write, a frame of 256 B", 7);
     write("write, the last frame, 176 B", 17);
     count();
+    reassemble("reassemble 4,096 B in pieces of 232", PIECE);
+    reassemble("reassemble 4,096 B in pieces of 1", 1);
 }
 
 fn sums() {
@@ -51,7 +54,10 @@ fn sums() {
 
 fn parse() {
     let mut frame = [0; 256];
-    assert_eq!(call_write(baseline::write, &message(), 7, &mut frame).0, 0);
+    assert_eq!(
+        call_write(baseline::write, &message(), PIECE, 7, &mut frame).0,
+        0
+    );
     let (mut library_header, mut rust_header) = ([0; 6], [0; 6]);
     print_row(
         "parse, a frame of 256 B",
@@ -74,10 +80,35 @@ fn write(what: &str, index: usize) {
     let (mut library_out, mut rust_out) = ([0; 256], [0; 256]);
     print_row(
         what,
-        || call_write(library::write, &message, index, &mut library_out),
-        || call_write(baseline::write, &message, index, &mut rust_out),
+        || call_write(library::write, &message, PIECE, index, &mut library_out),
+        || call_write(baseline::write, &message, PIECE, index, &mut rust_out),
     );
     assert_eq!(library_out, rust_out, "{what}: the frames differ");
+}
+
+/// All calls of one message, from the fresh state to the delivery.
+fn reassemble(what: &str, piece_size: usize) {
+    let message = message();
+    let frames = frames(&message, piece_size);
+    let (mut library_buffer, mut rust_buffer) = ([0; MESSAGE], [0; MESSAGE]);
+    print_row(
+        what,
+        || call_steps(library::step, &frames, &mut library_buffer),
+        || call_steps(baseline::step, &frames, &mut rust_buffer),
+    );
+    assert_eq!(library_buffer, message, "{what}: the library's message");
+    assert_eq!(rust_buffer, message, "{what}: Rust's message");
+}
+
+/// All frames of a message.
+fn frames(message: &[u8; MESSAGE], piece_size: usize) -> Vec<Vec<u8>> {
+    let frame = |index| {
+        let mut out = [0; 256];
+        let (answer, length) = call_write(baseline::write, message, piece_size, index, &mut out);
+        assert_eq!(answer, 0);
+        out[..length].to_vec()
+    };
+    (0..MESSAGE.div_ceil(piece_size)).map(frame).collect()
 }
 
 /// Bytes that are not all alike.
@@ -108,6 +139,7 @@ fn call_count(count: Count) -> (u32, usize) {
 fn call_write(
     write: Write,
     message: &[u8; MESSAGE],
+    piece_size: usize,
     index: usize,
     out: &mut [u8; 256],
 ) -> (u32, usize) {
@@ -118,10 +150,21 @@ fn call_write(
         black_box(STATUS),
         black_box(RECEIVER),
         black_box(message),
-        black_box(PIECE),
+        black_box(piece_size),
         black_box(index),
         black_box(out),
         &mut frame_len,
     );
     (answer, frame_len)
+}
+
+#[inline(always)]
+fn call_steps(step: Step, frames: &[Vec<u8>], buffer: &mut [u8; MESSAGE]) -> (u32, [u32; 4]) {
+    let (mut state, mut words) = ([0; 7], [0; 4]);
+    let mut answer = 0;
+    for frame in black_box(frames) {
+        let (state, buffer) = (black_box(&mut state), black_box(&mut *buffer));
+        answer = step(state, frame, black_box(RECEIVER), buffer, &mut words);
+    }
+    (answer, words)
 }

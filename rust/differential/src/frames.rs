@@ -3,6 +3,9 @@
 use crate::random::Random;
 use hoursquall::{Envelope, Refusal, FRAME_MAX, MESSAGE_MAX};
 
+/// Byte 0 of a frame: type 1 and version 1.
+pub const TYPE_AND_VERSION: u8 = 0x11;
+
 /// All frames of a message, by Index, or the refusal.
 pub type Frames = Result<Vec<Vec<u8>>, Refusal>;
 
@@ -42,4 +45,18 @@ pub fn library_frames(envelope: &Envelope, message: &[u8], piece_size: usize) ->
 /// The frames that the reference writes.
 pub fn reference_frames(envelope: &Envelope, message: &[u8], piece_size: usize) -> Frames {
     reference::frame::frames(&for_reference(envelope), message, piece_size)
+}
+
+/// Any other byte, often one with the right type or the right version.
+pub fn wrong_type(random: &mut Random) -> u8 {
+    let any = TYPE_AND_VERSION ^ random.within(1..=255) as u8;
+    random.pick(&[any, any, 0x00, 0x01, 0x10, 0x12, 0x21, 0x91, 0x1F, 0xFF])
+}
+
+/// Any other number, often one that differs in a single bit.
+pub fn other_receiver(random: &mut Random, us: u32) -> u32 {
+    if random.bool() {
+        return us ^ (1 << random.within(0..=31));
+    }
+    us ^ random.within(1..=u32::MAX as usize) as u32
 }

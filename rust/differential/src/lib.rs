@@ -4,6 +4,7 @@
 pub mod frames;
 pub mod memory;
 pub mod random;
+pub mod reassembly;
 
 use std::env;
 

@@ -37,6 +37,8 @@ fn declarator(name: &str, kind: &str) -> String {
         "*mut u8" => format!("uint8_t *{name}"),
         "*mut usize" => format!("size_t *{name}"),
         "*mut [u32; 6]" => format!("uint32_t {name}[HS_HEADER_WORDS]"),
+        "*mut [u32; 4]" => format!("uint32_t {name}[HS_WORDS]"),
+        "*mut [u64; 7]" => format!("uint64_t {name}[HS_STATE_NUMBERS]"),
         _ => panic!("{name}: no C type is listed here for {kind}"),
     }
 }
@@ -57,8 +59,8 @@ fn is_function(word: &str) -> bool {
     word.starts_with("hs_") && word.contains('(')
 }
 
-/// Sizes, places of the header's words, and refusals by their numbers in document 01.
-const CONSTANTS: [(&str, usize); 20] = [
+/// Sizes, places of the header's words, answers, and refusals by their numbers in document 01.
+const CONSTANTS: [(&str, usize); 30] = [
     ("HS_HEADER_SIZE", hoursquall::HEADER_SIZE),
     ("HS_FRAME_MAX", hoursquall::FRAME_MAX),
     ("HS_PIECE_MAX", hoursquall::PIECE_MAX),
@@ -70,12 +72,22 @@ const CONSTANTS: [(&str, usize); 20] = [
     ("HS_HEADER_STATUS", 4),
     ("HS_HEADER_TOTAL", 5),
     ("HS_HEADER_WORDS", 6),
+    ("HS_STATE_NUMBERS", 7),
+    ("HS_WORDS", 4),
     ("HS_OK", 0),
+    ("HS_MORE", 0),
+    ("HS_DELIVERED", 100),
     ("HS_REFUSED_FRAME_SHORT", 1),
     ("HS_REFUSED_FRAME_LONG", 2),
     ("HS_REFUSED_WRONG_TYPE", 3),
     ("HS_REFUSED_OTHER_RECEIVER", 4),
+    ("HS_REFUSED_NOTHING_OPEN", 5),
+    ("HS_REFUSED_OUT_OF_ORDER", 6),
+    ("HS_REFUSED_OTHER_WORDS", 7),
+    ("HS_REFUSED_NO_DATA", 8),
+    ("HS_REFUSED_TOO_MUCH_DATA", 9),
     ("HS_REFUSED_MESSAGE_LONG", 10),
+    ("HS_REFUSED_BAD_STATE", 11),
     ("HS_REFUSED_PIECE_SIZE", 12),
     ("HS_REFUSED_NO_FRAME", 13),
     ("HS_REFUSED_OUTPUT_SHORT", 14),

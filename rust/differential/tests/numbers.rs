@@ -1,7 +1,9 @@
-//! The specification's own numbers for frames and sums, on the library and on the reference.
+//! The specification's own numbers for frames, reassembly and sums, on the library and on the reference.
 
 use differential::frames::{library_frames, reference_frames, Frames};
-use hoursquall::Envelope;
+use differential::random::Random;
+use differential::reassembly::Machine;
+use hoursquall::{Envelope, Verdict};
 
 /// What is checked, of either implementation.
 struct Implementation {
@@ -44,6 +46,17 @@ fn five_bytes_in_pieces_of_two() {
         let lengths: Vec<usize> = frames.iter().map(Vec::len).collect();
         assert_eq!(lengths, [26, 26, 25], "{name}");
         assert_eq!(frames[0], first, "{name}");
+    }
+}
+
+/// The machine compares the two implementations, so one verdict is that of both.
+#[test]
+fn second_frame_lost() {
+    for Implementation { name, frames, .. } in BOTH {
+        let frames = frames(&ENVELOPE, &[1, 2, 3, 4, 5], 2).expect(name);
+        let mut machine = Machine::new(&mut Random::new(70), 11, [0; 7], &[0; 5]);
+        assert_eq!(machine.step(&frames[0]), Verdict::More, "{name}");
+        assert_eq!(machine.step(&frames[2]), Verdict::Refused(6), "{name}");
     }
 }
 

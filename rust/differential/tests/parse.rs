@@ -1,12 +1,11 @@
 //! The frame reader against the reference.
 
+use differential::frames::{other_receiver, wrong_type, TYPE_AND_VERSION};
 use differential::memory::Memory;
 use differential::random::Random;
 use differential::{cases, report};
 use hoursquall::raw;
 use reference::frame::{self, Header};
-
-const TYPE_AND_VERSION: u8 = 0x11;
 
 /// Lengths at the limits of a frame.
 const LIMITS: [usize; 6] = [23, 24, 25, 255, 256, 257];
@@ -69,20 +68,6 @@ fn frame(random: &mut Random, length: usize, type_fault: bool, us_fault: bool) -
         return (frame, other_receiver(random, us));
     }
     (frame, us)
-}
-
-/// Any other byte, often one with the right type or the right version.
-fn wrong_type(random: &mut Random) -> u8 {
-    let any = TYPE_AND_VERSION ^ random.within(1..=255) as u8;
-    random.pick(&[any, any, 0x00, 0x01, 0x10, 0x12, 0x21, 0x91, 0x1F, 0xFF])
-}
-
-/// Any other number, often one that differs in a single bit.
-fn other_receiver(random: &mut Random, us: u32) -> u32 {
-    if random.bool() {
-        return us ^ (1 << random.within(0..=31));
-    }
-    us ^ random.within(1..=u32::MAX as usize) as u32
 }
 
 #[test]

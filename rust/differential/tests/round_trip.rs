@@ -1,9 +1,9 @@
-//! What the library writes, it reads back as it was meant.
+//! What the library writes, it reads back and hands up as it was meant.
 
 use differential::frames::{library_frames, random_envelope, reference_frames};
 use differential::random::Random;
 use differential::{cases, report};
-use hoursquall::{Envelope, Header, MESSAGE_MAX, PIECE_MAX};
+use hoursquall::{Envelope, Header, Reassembly, Verdict, Words, MESSAGE_MAX, PIECE_MAX};
 
 /// Writes a message frame by frame, reads it back, and answers how many frames that took.
 fn check(envelope: &Envelope, message: &[u8], piece_size: usize) -> usize {
@@ -27,7 +27,28 @@ fn check(envelope: &Envelope, message: &[u8], piece_size: usize) -> usize {
         joined.extend(hoursquall::data(frame));
     }
     assert_eq!(joined, message);
+    check_reassembly(envelope, message, &frames);
     frames.len()
+}
+
+/// Every frame asks for more but the last, which completes the message.
+fn check_reassembly(envelope: &Envelope, message: &[u8], frames: &[Vec<u8>]) {
+    let mut reassembly = Reassembly::default();
+    let mut buffer = vec![0; message.len()];
+    let (last, others) = frames.split_last().expect("there is one at least");
+    for frame in others {
+        let verdict = reassembly.step(frame, envelope.receiver, &mut buffer);
+        assert_eq!(verdict, Verdict::More);
+    }
+    let words = Words {
+        id: envelope.id,
+        sender: envelope.sender,
+        status: envelope.status,
+        total: message.len() as u32,
+    };
+    let verdict = reassembly.step(last, envelope.receiver, &mut buffer);
+    assert_eq!(verdict, Verdict::Delivered(words));
+    assert_eq!(buffer, message);
 }
 
 #[test]

@@ -1,4 +1,4 @@
-//! Message frames and table sums: safe wrappers over the proved static library.
+//! Message frames, their reassembly and table sums: safe wrappers over the proved static library.
 //!
 //! ```
 //! use hoursquall::{count, data, parse, write, Envelope, FRAME_MAX};
@@ -18,6 +18,9 @@
 //! ```
 
 pub mod raw;
+mod reassembly;
+
+pub use reassembly::{Reassembly, Verdict, Words};
 
 /// Bytes of a frame's header.
 pub const HEADER_SIZE: usize = 24;

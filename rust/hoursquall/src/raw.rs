@@ -28,4 +28,14 @@ extern "C" {
         out_len: usize,
         frame_len: *mut usize,
     ) -> u32;
+
+    pub fn hs_reassembly_step(
+        state: *mut [u64; 7],
+        frame: *const u8,
+        frame_len: usize,
+        us: u32,
+        buffer: *mut u8,
+        buffer_len: usize,
+        words: *mut [u32; 4],
+    ) -> u32;
 }

@@ -101,6 +101,17 @@ pub fn frames(
         .collect()
 }
 
+/// The frames that carry these pieces, by Index. The pieces are those of a message by the rules:
+/// they may differ in length.
+pub fn framed(envelope: &Envelope, pieces: &[&[u8]]) -> Vec<Vec<u8>> {
+    let total = pieces.iter().map(|piece| piece.len()).sum();
+    pieces
+        .iter()
+        .enumerate()
+        .map(|(index, piece)| carrying(envelope, total, index, piece))
+        .collect()
+}
+
 /// The frame `index` of a message.
 fn one_frame(
     envelope: &Envelope,
@@ -110,15 +121,20 @@ fn one_frame(
 ) -> Result<Vec<u8>, Refusal> {
     check_sizes(message.len(), piece_size)?;
     let piece = piece(message, piece_size, index).ok_or(13u32)?;
+    Ok(carrying(envelope, message.len(), index, piece))
+}
+
+/// The frame that carries a piece of a message of `total` bytes.
+fn carrying(envelope: &Envelope, total: usize, index: usize, piece: &[u8]) -> Vec<u8> {
     let header = Header {
         index: u16::try_from(index).expect("a message has at most 4,096 frames"),
         id: envelope.id,
         sender: envelope.sender,
         receiver: envelope.receiver,
         status: envelope.status,
-        total: u32::try_from(message.len()).expect("a message has at most 4,096 bytes"),
+        total: u32::try_from(total).expect("a message has at most 4,096 bytes"),
     };
-    Ok([&encode(&header), piece].concat())
+    [&encode(&header), piece].concat()
 }
 
 /// The refusals that the writer and the count share, in their order.
@@ -141,7 +157,7 @@ fn piece(message: &[u8], piece_size: usize, index: usize) -> Option<&[u8]> {
 }
 
 /// A header's 24 bytes.
-fn encode(header: &Header) -> Vec<u8> {
+pub fn encode(header: &Header) -> Vec<u8> {
     let reserved = 0;
     let mut bytes = vec![TYPE_AND_VERSION, reserved];
     bytes.extend(header.index.to_le_bytes());

@@ -4,4 +4,5 @@
 //! definitions, and it prefers the obvious to the fast.
 
 pub mod frame;
+pub mod reassembly;
 pub mod sum;

@@ -1,4 +1,4 @@
--- `demo::print_start` is safe: the part lies within the output.
+-- `demo::print_start` is safe: the part lies within the buffer.
 -- Assumes nothing.
 use mathlib.Core.Path.{sym}
 use lib.Seq.{length-take-le}
@@ -6,11 +6,12 @@ use borrow.Author.Needs.{needs}
 use Rattle.demo.proofs.print_start.Statement.{statement}
 use Rattle.demo.proofs.print_start.Tie as tie
 
-slice-aggregate-print-frame : tie.Need-slice-aggregate-print-frame
-slice-aggregate-print-frame c = let args = c .before .before .before .args in sym (length-take-le (args .length) (args .out .now) (c .before .if1 .taken))
+slice-aggregate-print : tie.Need-slice-aggregate-print
+slice-aggregate-print c =
+    let args = c .before .before .before .args in sym (length-take-le (args .n) (args .buffer .now) (c .before .if1 .taken))
 
-print-frame-requires : tie.Need-print-frame-requires
-print-frame-requires c κs = search needs
+print-requires : tie.Need-print-requires
+print-requires c κs = search needs
 
 returns : tie.Need-returns
 returns c = search needs
@@ -19,5 +20,4 @@ returns-2 : tie.Need-returns-2
 returns-2 c = search needs
 
 pub print-start-spec : {M : Type 1} → statement M
-print-start-spec =
-    tie.close (tie.spec slice-aggregate-print-frame print-frame-requires returns returns-2)
+print-start-spec = tie.close (tie.spec slice-aggregate-print print-requires returns returns-2)

@@ -1,15 +1,17 @@
--- `demo::send_frames` is safe and ends: it counts up to the number of frames.
+-- `demo::send_frames` is safe and ends: it counts up to the number of frames, and the buffer keeps its length.
 -- Assumes nothing.
 use Prim.Native.Nat.{_-_, _≤_}
+use mathlib.Core.Path.{_≡_}
+use lib.ListN.{length}
 use borrow.Author.Needs.{needs}
 use Rattle.demo.proofs.send_frames.Statement.{statement}
 use Rattle.demo.proofs.send_frames.Tie as tie
 
 abbrev Inv-loop : tie.InvT-loop
-Inv-loop e message frames index₀ index = index ≤ frames
+Inv-loop e message frames buffer₀ now₀ index₀ buffer now index = (index ≤ frames) × (length buffer ≡ length buffer₀)
 
 abbrev μ-loop : tie.MeasureT-loop
-μ-loop e message frames index₀ index = frames - index
+μ-loop e message frames buffer₀ now₀ index₀ buffer now index = frames - index
 
 loop-holds : tie.Need-loop-holds Inv-loop μ-loop
 loop-holds c = search needs
@@ -26,6 +28,9 @@ loop-less c = search needs
 loop-again : tie.Need-loop-again Inv-loop μ-loop
 loop-again c = search needs
 
+same-length : tie.Need-same-length Inv-loop μ-loop
+same-length c = search needs
+
 returns : tie.Need-returns Inv-loop μ-loop
 returns c = search needs
 
@@ -40,4 +45,5 @@ send-frames-spec =
     add-index
     loop-less
     loop-again
+    same-length
     returns)

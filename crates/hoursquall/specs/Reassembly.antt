@@ -1,0 +1,54 @@
+-- The state and the answers of the crate `reassembly` as numbers.
+-- Assumes nothing.
+use Prim.Native.Nat.{ℕ}
+use mathlib.Core.Bool.{cond, not}
+use mathlib.Core.List.{List, [], _∷_}
+use lib.Dec.{eqb, ltb}
+use lib.ListN.{getD, replicate}
+use Rattle.frame.specs.declared.Words.{Words}
+use Rattle.reassembly.specs.declared.State.{State}
+use Rattle.reassembly.specs.declared.State.the-variants.{Fresh, Open}
+use Rattle.reassembly.specs.declared.Verdict.{Verdict}
+use Rattle.reassembly.specs.declared.Verdict.the-variants.{More, Delivered, Refused}
+use Rattle.reassembly.specs.Step as Step
+
+-- an open state that no buffer is consistent with
+abbrev pub noState : State
+noState = Open (record { words = record { id = 0; sender = 0; status = 0; total = 0 }; next = 0; filled = 0 })
+
+-- the largest word of 32 bits
+abbrev pub wordMax : ℕ
+wordMax = 0xFFFFFFFF
+
+-- The state that a block of seven numbers is: 0 is fresh, whatever follows it; 1 is open, with the carried words, the next Index and how many bytes are
+-- filled. A block that is no state reads as `noState`, so that it gets 11.
+unfoldable pub stateOf : List ℕ → State
+stateOf b =
+    cond (eqb (getD b 0 0) 0) Fresh
+    (cond (not (eqb (getD b 0 0) 1)) noState
+    (cond (ltb wordMax (getD b 1 0)) noState
+    (cond (ltb wordMax (getD b 2 0)) noState
+    (cond (ltb wordMax (getD b 3 0)) noState
+    (cond (ltb wordMax (getD b 4 0)) noState
+    (Open (record {
+      words = record { id = getD b 1 0; sender = getD b 2 0; status = getD b 3 0; total = getD b 4 0 };
+      next = getD b 5 0;
+      filled = getD b 6 0;
+    })))))))
+
+-- the block that a state is written as
+abbrev pub blockOf : State → List ℕ
+blockOf Fresh = replicate 7 0
+blockOf (Open p) =
+    1 ∷ p .words .id ∷ p .words .sender ∷ p .words .status ∷ p .words .total ∷ p .next ∷ p .filled ∷ []
+
+-- 0: more is wanted; 100: a message is delivered; else the number of the refusal
+abbrev pub verdictNumber : Verdict → ℕ
+verdictNumber More = 0
+verdictNumber (Delivered w n) = 100
+verdictNumber (Refused reason) = Step.numberOf reason
+
+abbrev pub wordsAfter : Verdict → List ℕ → List ℕ
+wordsAfter More before = before
+wordsAfter (Delivered w n) before = w .id ∷ w .sender ∷ w .status ∷ w .total ∷ []
+wordsAfter (Refused reason) before = before

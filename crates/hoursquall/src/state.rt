@@ -1,0 +1,82 @@
+// The state of a reassembly as a block of seven numbers, for a caller to keep between calls.
+use frame::Words;
+use reassembly::Progress;
+use reassembly::State;
+ghost use mathlib.Core.Path.{_≡_};
+ghost use Rattle.hoursquall.specs.Reassembly.{noState, stateOf, blockOf};
+
+const WORD_MAX: u64 = 0xFFFF_FFFF;
+
+// An open state that no buffer is consistent with.
+fn no_state() -> State
+    ensures { λ r. ⌜ r ≡ noState ⌝ }
+{
+    State::Open(Progress {
+        words: Words {
+            id: 0,
+            sender: 0,
+            status: 0,
+            total: 0,
+        },
+        next: 0,
+        filled: 0,
+    })
+}
+
+pub(crate) fn state_of(b: [u64; 7]) -> State
+    ensures { λ r. ⌜ r ≡ stateOf b ⌝ }
+{
+    let kind = b[0];
+    let id = b[1];
+    let sender = b[2];
+    let status = b[3];
+    let total = b[4];
+    if kind == 0 {
+        return State::Fresh;
+    }
+    if kind != 1 {
+        return no_state();
+    }
+    if WORD_MAX < id {
+        return no_state();
+    }
+    if WORD_MAX < sender {
+        return no_state();
+    }
+    if WORD_MAX < status {
+        return no_state();
+    }
+    if WORD_MAX < total {
+        return no_state();
+    }
+    State::Open(Progress {
+        words: Words {
+            id: id as u32,
+            sender: sender as u32,
+            status: status as u32,
+            total: total as u32,
+        },
+        next: b[5] as usize,
+        filled: b[6] as usize,
+    })
+}
+
+pub(crate) fn block_of(state: State) -> [u64; 7]
+    ensures { λ r. ⌜ r ≡ blockOf state ⌝ }
+{
+    match state {
+        State::Fresh => [0; 7],
+        State::Open(open) => {
+            let words = open.words;
+            [
+                1,
+                words.id as u64,
+                words.sender as u64,
+                words.status as u64,
+                words.total as u64,
+                open.next as u64,
+                open.filled as u64,
+            ]
+        }
+    }
+}

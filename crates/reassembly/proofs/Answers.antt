@@ -1,0 +1,171 @@
+-- The laws of the definitions that make up a step: one for each answer, with what leads there.
+-- Assumes nothing.
+use Prim.Native.Nat.{ℕ, suc, _+_, _-_, _≤_, _<_}
+use mathlib.Core.Bool.{Bool, true, false, not, _&&_}
+use mathlib.Core.Path.{_≡_, refl, sym, ap, _∙_}
+use mathlib.Core.List.{List}
+use borrow.Author.Tests.{lt-ltb, le-ltb, lt-leb, le-leb, eq-eqb, ne-eqb, leb-true, ltb-true}
+use native.Mathlib.Numerals.{add-one}
+use native.Mathlib.Omega.{arith}
+use lib.Dec.{leb, ltb, eqb}
+use lib.ListN.{length}
+use Rattle.frame.specs.Layout.{messageMax}
+use Rattle.frame.specs.Reading.{parsed, dataOf}
+use Rattle.frame.specs.declared.Header.{Header}
+use Rattle.frame.specs.declared.Words.{Words}
+use Rattle.frame.specs.declared.read.Parsed.the-variants as Parsed
+use Rattle.frame.specs.declared.read.Reason.{Reason}
+use Rattle.reassembly.specs.Step.{Stepped, consistent, sameWords, refused, landed, accept, begin, proceed, received, stepOf}
+use Rattle.reassembly.specs.Helpers.{lacksData}
+use Rattle.reassembly.specs.declared.Answer.{Answer}
+use Rattle.reassembly.specs.declared.Progress.{Progress}
+use Rattle.reassembly.specs.declared.State.{State}
+use Rattle.reassembly.specs.declared.State.the-variants.{Fresh, Open}
+use Rattle.reassembly.specs.declared.Verdict.the-variants.{More, Delivered}
+use Rattle.reassembly.specs.declared.Reason.the-variants.{Unread, NothingOpen, OutOfOrder, OtherWords, NoData, TooMuchData, MessageLong, BadState}
+
+-- an answer and a buffer that are those of a step's law are those of the step
+pub as-in : (st law : Stepped) (answer : Answer) (buffer : List ℕ) → st ≡ law → answer ≡ law .answer → buffer ≡ law .buffer
+    → (answer ≡ st .answer) × (buffer ≡ st .buffer)
+as-in st law answer buffer e a b = rw e (a, b)
+
+-- which states are fresh or consistent
+pub fresh : (room : ℕ) → consistent Fresh room ≡ true
+unfolding consistent
+fresh room = refl
+
+module _ (p : Progress) (room : ℕ) where
+  pub no-next : p .next < 1 → consistent (Open p) room ≡ false
+  unfolding consistent
+  no-next h = rw (lt-leb 1 (p .next) h)
+
+  module _ (next : 1 ≤ p .next) where
+    pub next-ahead : p .filled < p .next → consistent (Open p) room ≡ false
+    unfolding consistent
+    next-ahead h = rw (le-leb 1 (p .next) next, lt-leb (p .next) (p .filled) h)
+
+    module _ (order : p .next ≤ p .filled) where
+      pub all-filled : p .words .total ≤ p .filled → consistent (Open p) room ≡ false
+      unfolding consistent
+      all-filled h = rw (le-leb 1 (p .next) next, le-leb (p .next) (p .filled) order, le-ltb (p .filled) (p .words .total) h)
+
+      module _ (less : p .filled < p .words .total) where
+        pub over-long : messageMax < p .words .total → consistent (Open p) room ≡ false
+        unfolding consistent
+        over-long h =
+            rw (
+              le-leb 1 (p .next) next,
+              le-leb (p .next) (p .filled) order,
+              lt-ltb (p .filled) (p .words .total) less,
+              lt-leb (p .words .total) messageMax h,
+            )
+
+        pub by-room : p .words .total ≤ messageMax → consistent (Open p) room ≡ leb (p .words .total) room
+        unfolding consistent
+        by-room h =
+            rw (
+              le-leb 1 (p .next) next,
+              le-leb (p .next) (p .filled) order,
+              lt-ltb (p .filled) (p .words .total) less,
+              le-leb (p .words .total) messageMax h,
+            )
+
+-- a consistent open state: its message fits the buffer, is not whole, and its next Index is below the longest message
+pub both : (a b : Bool) → a && b ≡ true → (a ≡ true) × (b ≡ true)
+both true b e = (refl, e)
+both false b e = absurd (let z : _≡_ {A = ℕ} 0 1 = cc in omega arith)
+
+pub record Consistent (p : Progress) (room : ℕ) : Type 0 where
+  pub order : p .next ≤ p .filled
+  pub less : p .filled < p .words .total
+  pub bounded : p .words .total ≤ messageMax
+  pub held : p .words .total ≤ room
+
+pub consistent-open : (p : Progress) (room : ℕ) → consistent (Open p) room ≡ true → Consistent p room
+unfolding consistent
+consistent-open p room e =
+    let total = p .words .total in
+    let a = both (leb 1 (p .next)) _ e in
+    let b = both (leb (p .next) (p .filled)) _ (a .1) in
+    let c = both (ltb (p .filled) total) _ (b .1) in
+    let d = both (leb total messageMax) _ (c .1) in
+    record {
+      order = leb-true (p .next) (p .filled) (b .0);
+      less = ltb-true (p .filled) total (c .0);
+      bounded = leb-true total messageMax (d .0);
+      held = leb-true total room (d .1);
+    }
+
+-- 8, 9, and data that is taken
+module _ (w : Words) (i filled : ℕ) (p b : List ℕ) where
+  pub lacking : lacksData (length p) (w .total) ≡ true → accept w i filled p b ≡ refused NoData Fresh b
+  unfolding accept
+  lacking h = rw h
+
+  pub excess : lacksData (length p) (w .total) ≡ false → w .total - filled < length p → accept w i filled p b ≡ refused TooMuchData Fresh b
+  unfolding accept
+  excess h l = rw (h, lt-ltb (w .total - filled) (length p) l)
+
+  module _ (some : lacksData (length p) (w .total) ≡ false) (fits : length p ≤ w .total - filled) where
+    pub delivers : filled + length p ≡ w .total
+        → accept w i filled p b ≡ record { answer = record { verdict = Delivered w (w .total); state = Fresh }; buffer = landed filled p b }
+    unfolding accept
+    delivers h = rw (some, le-ltb (w .total - filled) (length p) fits, eq-eqb (filled + length p) (w .total) h)
+
+    pub wants-more : (filled + length p ≡ w .total → ⊥)
+        → accept w i filled p b
+        ≡ record { answer = record { verdict = More; state = Open (record { words = w; next = i + 1; filled = filled + length p }) }; buffer = landed filled p b }
+    unfolding accept
+    wants-more h = rw (some, le-ltb (w .total - filled) (length p) fits, ne-eqb (filled + length p) (w .total) h, add-one i)
+
+-- 10, and a message that begins
+module _ (w : Words) (p b : List ℕ) where
+  pub over-limit : messageMax < w .total → begin w p b ≡ refused MessageLong Fresh b
+  unfolding begin
+  over-limit h = rw (lt-ltb messageMax (w .total) h)
+
+  pub over-buffer : w .total ≤ messageMax → length b < w .total → begin w p b ≡ refused MessageLong Fresh b
+  unfolding begin
+  over-buffer h l = rw (le-ltb messageMax (w .total) h, lt-ltb (length b) (w .total) l)
+
+  pub begins : w .total ≤ messageMax → w .total ≤ length b → begin w p b ≡ accept w 0 0 p b
+  unfolding begin
+  begins h l = rw (le-ltb messageMax (w .total) h, le-ltb (length b) (w .total) l)
+
+-- 5, 6, 7, and a message that goes on
+module _ (h : Header) (p b : List ℕ) where
+  pub none-open : proceed h p Fresh b ≡ refused NothingOpen Fresh b
+  unfolding proceed
+  none-open = refl
+
+  module _ (q : Progress) where
+    pub other-index : (h .index ≡ q .next → ⊥) → proceed h p (Open q) b ≡ refused OutOfOrder Fresh b
+    unfolding proceed
+    other-index n = rw (ne-eqb (h .index) (q .next) n)
+
+    pub other-words : h .index ≡ q .next → sameWords (h .words) (q .words) ≡ false → proceed h p (Open q) b ≡ refused OtherWords Fresh b
+    unfolding proceed
+    other-words i w = rw (eq-eqb (h .index) (q .next) i, w)
+
+    pub goes-on : h .index ≡ q .next → sameWords (h .words) (q .words) ≡ true → proceed h p (Open q) b ≡ accept (q .words) (q .next) (q .filled) p b
+    unfolding proceed
+    goes-on i w = rw (eq-eqb (h .index) (q .next) i, w)
+
+-- 11, 1 to 4, and by the Index
+module _ (us : ℕ) (s : State) (b f : List ℕ) where
+  pub bad-state : consistent s (length b) ≡ false → stepOf us s b f ≡ refused BadState Fresh b
+  unfolding stepOf
+  bad-state h = rw h
+
+  module _ (ok : consistent s (length b) ≡ true) where
+    pub unread-frame : (reason : Reason) → parsed us f ≡ Parsed.Refused reason → stepOf us s b f ≡ refused (Unread reason) s b
+    unfolding stepOf received
+    unread-frame reason e = rw (ok, e)
+
+    pub index-zero : (h : Header) → parsed us f ≡ Parsed.Header h → h .index ≡ 0 → stepOf us s b f ≡ begin (h .words) (dataOf f) b
+    unfolding stepOf received
+    index-zero h e i = rw (ok, e, eq-eqb (h .index) 0 i)
+
+    pub index-more : (h : Header) → parsed us f ≡ Parsed.Header h → (h .index ≡ 0 → ⊥) → stepOf us s b f ≡ proceed h (dataOf f) s b
+    unfolding stepOf received
+    index-more h e i = rw (ok, e, ne-eqb (h .index) 0 i)

@@ -1,0 +1,5 @@
+-- The laws of one step, and the theorem over whole runs.
+pub mod Answers
+pub mod Steps
+pub mod Theorem
+pub mod Corollaries

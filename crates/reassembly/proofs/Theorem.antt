@@ -1,0 +1,235 @@
+-- Demand 3. Inside a message one is on track (what is open waits for this Index, and the buffer starts with the pieces so far) or behind (nothing is
+-- open, or what is open waits for an earlier Index); an Index 0 frame puts one on track from any state that is fresh or consistent.
+--     put-ins      frames that were put in hand up nothing and change nothing
+--     lost         behind, the rest of a message hands up nothing
+--     accepted     on track, the rest hands up the message if all of it arrives
+--     one-message  a whole message
+--     demand-3     the whole traffic
+-- What follows a message enters as a continuation: from any state that is fresh or consistent, and any buffer of that length, it hands up E.
+-- Assumes nothing.
+use Prim.Native.Nat.{ℕ, zero, suc, _+_, _^_, _≤_, _<_}
+use mathlib.Core.Bool.{Bool, true, false, cond, _&&_}
+use mathlib.Core.Path.{_≡_, refl, sym, ap, _∙_}
+use mathlib.Core.List.{List, [], _∷_, _++_, map, flatten, append-assoc, append-nil}
+use mathlib.Core.Option.{Option, none, some}
+use native.Mathlib.Nat.{pos-of-ne-zero}
+use native.Mathlib.Omega.{arith}
+use borrow.Author.Tests.{eq-eqb, ne-eqb, le-leb, lt-ltb}
+use lib.ListN.{length, take, drop, length-append, length-take}
+use Rattle.frame.specs.Layout.{pieceMax, messageMax, headerFor, frameOf}
+use Rattle.frame.specs.Framing.{All, Piece, Cut}
+use Rattle.frame.specs.Statements.{Fits}
+use Rattle.frame.specs.declared.Envelope.{Envelope}
+use Rattle.frame.specs.declared.Words.{Words}
+use Rattle.reassembly.specs.Step.{Stepped, consistent, refused, landed, taken, accept, proceed, stepOf}
+use Rattle.reassembly.specs.Run.{HandedUp, handedUp, run}
+use Rattle.reassembly.specs.Traffic.{Message, Sent, Transmission, Traffic, PutIn, FirstArrives, Legal, LegalTraffic, envelopeFor, callsFrom, callsOf, allArrive, asSent, nothing, ifLast, expectedFrom, gives, expectedOf}
+use Rattle.reassembly.specs.Statements.{Demand3}
+use Rattle.reassembly.specs.declared.State.{State}
+use Rattle.reassembly.specs.declared.State.the-variants.{Fresh, Open}
+use Rattle.reassembly.proofs.Steps.{put-in, first, later, in-order, Behind, out-of-order, fitting, length-landed, start-landed}
+
+-- the pieces of frames
+abbrev pieces : List Sent → List (List ℕ)
+pieces ss = map (λ s. s .piece) ss
+
+-- what a run gives from a step on
+abbrev after : ℕ → Stepped → List (List ℕ) → List (Option HandedUp)
+after us st fs = handedUp (st .answer .verdict) (st .buffer) ∷ run us (st .answer .state) (st .buffer) fs
+
+run-step : (us : ℕ) (s : State) (b f : List ℕ) (fs : List (List ℕ)) (st : Stepped) → stepOf us s b f ≡ st → run us s b (f ∷ fs) ≡ after us st fs
+unfolding run
+run-step us s b f fs st e = rw e
+
+-- before ++ (frame ++ calls), with what follows them, bracketed to the right
+regroup : (before frame calls rest : List (List ℕ)) → before ++ (frame ++ calls) ++ rest ≡ before ++ (frame ++ (calls ++ rest))
+regroup before frame calls rest = simp append-assoc
+
+long : (s : Sent) (ss : List Sent) → length (flatten (pieces (s ∷ ss))) ≡ length (s .piece) + length (flatten (pieces ss))
+unfolding flatten
+long s ss = length-append (s .piece) (flatten (pieces ss))
+
+never-last : (ss : List Sent) → ifLast ss none ≡ none
+never-last [] = refl
+never-last (s ∷ ss) = refl
+
+further : (i : ℕ) (st : State) → Behind i st → Behind (suc i) st
+further i Fresh behind = tt
+further i (Open p) behind = omega arith
+
+module _ (us room : ℕ) (us-fits : us < 2 ^ 32) where
+  -- a state that is fresh or consistent, over a buffer of that length
+  abbrev Ready : State → List ℕ → Type 0
+  Ready s b = (length b ≡ room) × (consistent s room ≡ true)
+
+  abbrev Continues : List (List ℕ) → List (Option HandedUp) → Type 0
+  Continues rest E = (s : State) (b : List ℕ) → Ready s b → run us s b rest ≡ E
+
+  ready : (s : State) (b : List ℕ) → Ready s b → consistent s (length b) ≡ true
+  ready s b r = rw (r .0) (r .1)
+
+  put-ins : (js : List (List ℕ)) → All (PutIn us) js → (s : State) (b : List ℕ) → Ready s b → (rest : List (List ℕ)) → run us s b (js ++ rest) ≡ nothing js ++ run us s b rest
+  put-ins [] h s b r rest = refl
+  put-ins (j ∷ js) h s b r rest =
+      let unread = put-in us s b (ready s b r) j (h .0) in
+      run-step us s b j (js ++ rest) _ (unread .1) ∙ ap (λ (l : List (Option HandedUp)). none ∷ l) (put-ins js (h .1) s b r rest)
+
+  fresh-ready : (b : List ℕ) → length b ≡ room → Ready Fresh b
+  unfolding consistent
+  fresh-ready b e = (e, refl)
+
+  module _ (m : Message) (fits : Fits (envelopeFor us m)) (bounded : length (m .bytes) ≤ messageMax) (held : length (m .bytes) ≤ room)
+      (rest : List (List ℕ)) (E : List (Option HandedUp)) (continues : Continues rest E) where
+    abbrev total : ℕ
+    total = length (m .bytes)
+
+    abbrev e : Envelope
+    e = envelopeFor us m
+
+    abbrev words : Words
+    words = headerFor e total 0 .words
+
+    -- the frames from Index i on, with what follows the message
+    abbrev from : ℕ → List Sent → List (List ℕ)
+    from i ss = callsFrom e total i ss ++ rest
+
+    -- what they give, if the message gives `up`
+    abbrev give : Option HandedUp → List Sent → List (Option HandedUp)
+    give up ss = expectedFrom up ss ++ E
+
+    abbrev arrived : Bool → List ℕ → List (List ℕ)
+    arrived a f = cond a (f ∷ []) []
+
+    -- one frame: what was put in before it, then itself, if it arrives
+    frame-then : (up : Option HandedUp) (i : ℕ) (s : Sent) (ss : List Sent) → All (PutIn us) (s .before) → (st : State) (b : List ℕ) → Ready st b
+        → run us st b (arrived (s .arrives) (frameOf (headerFor e total i) (s .piece)) ++ from (suc i) ss)
+        ≡ cond (s .arrives) (ifLast ss up ∷ []) [] ++ give up ss
+        → run us st b (from i (s ∷ ss)) ≡ give up (s ∷ ss)
+    unfolding callsFrom expectedFrom
+    frame-then up i s ss h st b r tail =
+        ap (run us st b) (regroup (s .before) (arrived (s .arrives) (frameOf (headerFor e total i) (s .piece))) (callsFrom e total (suc i) ss) rest)
+        ∙ put-ins (s .before) h st b r _
+        ∙ ap (λ (l : List (Option HandedUp)). nothing (s .before) ++ l) tail
+        ∙ simp append-assoc
+
+    -- behind
+    lost : (ss : List Sent) (i : ℕ) → suc i + length (flatten (pieces ss)) ≤ suc messageMax → All Piece (pieces ss) → All (λ s. All (PutIn us) (s .before)) ss
+        → (st : State) (b : List ℕ) → Ready st b → Behind (suc i) st → run us st b (from (suc i) ss) ≡ give none ss
+    unfolding callsFrom expectedFrom flatten
+    lost [] i short ps js st b r behind = continues st b r
+    lost (s ∷ ss) i short ps js st b r behind = frame-then none (suc i) s ss (js .0) st b r (go (lost ss (suc i) (omega (arith, long s ss)) (ps .1) (js .1)) (s .arrives))
+      where
+        go : ((st : State) (b : List ℕ) → Ready st b → Behind (suc (suc i)) st → run us st b (from (suc (suc i)) ss) ≡ give none ss)
+            → (a : Bool)
+            → run us st b (arrived a (frameOf (headerFor e total (suc i)) (s .piece)) ++ from (suc (suc i)) ss) ≡ cond a (ifLast ss none ∷ []) [] ++ give none ss
+        go next true =
+            let h = headerFor e total (suc i) in
+            let stepped = later us st b (ready st b r) e fits refl total bounded (s .piece) (ps .0 .1) i (omega (arith, long s ss)) in
+            let dropped = out-of-order h (s .piece) b st behind in
+            run-step us st b (frameOf h (s .piece)) _ _ (stepped ∙ dropped .1)
+            ∙ rw (never-last ss) (ap (λ (l : List (Option HandedUp)). none ∷ l) (next Fresh b (fresh-ready b (r .0)) tt))
+        go next false = next st b r (further (suc i) st behind)
+
+    -- what the message gives, if all so far arrived
+    abbrev up : List Sent → Option HandedUp
+    up ss = cond (allArrive ss) (some (asSent m)) none
+
+    -- open, and waiting for Index i
+    abbrev waiting : ℕ → ℕ → State
+    waiting i filled = Open (record { words = words; next = i; filled = filled })
+
+    waiting-ready : (i filled : ℕ) (b : List ℕ) → length b ≡ room → 1 ≤ i → i ≤ filled → filled < total → Ready (waiting i filled) b
+    unfolding consistent
+    waiting-ready i filled b len positive order less =
+        (len, rw (le-leb 1 i positive, le-leb i filled order, lt-ltb filled total less, le-leb total messageMax bounded, le-leb total room held))
+
+    -- the frame waited for comes, and what is left is as on track; or it is lost
+    next-frame : (s : Sent) (ss : List Sent) (i filled : ℕ) (b : List ℕ) → Ready (waiting (suc i) filled) b
+        → suc i + length (flatten (pieces (s ∷ ss))) ≤ messageMax
+        → All Piece (pieces (s ∷ ss))
+        → All (λ s. All (PutIn us) (s .before)) (s ∷ ss)
+        → after us (accept words (suc i) filled (s .piece) b) (from (suc (suc i)) ss) ≡ ifLast ss (up ss) ∷ give (up ss) ss
+        → (a : Bool)
+        → run us (waiting (suc i) filled) b (arrived a (frameOf (headerFor e total (suc i)) (s .piece)) ++ from (suc (suc i)) ss)
+        ≡ cond a (ifLast ss (cond (a && allArrive ss) (some (asSent m)) none) ∷ []) [] ++ give (cond (a && allArrive ss) (some (asSent m)) none) ss
+    next-frame s ss i filled b r short ps js then true =
+        let h = headerFor e total (suc i) in
+        let st = waiting (suc i) filled in
+        let stepped = later us st b (ready st b r) e fits refl total bounded (s .piece) (ps .0 .1) i (omega (arith, long s ss)) in
+        run-step us st b (frameOf h (s .piece)) _ _ (stepped ∙ in-order h (s .piece) b filled) ∙ then
+    next-frame s ss i filled b r short ps js then false =
+        lost ss (suc i) (omega (arith, long s ss, ps .0 .0)) (ps .1) (js .1) (waiting (suc i) filled) b r (omega arith)
+
+    -- on track: the data p of the frame with Index i is to be accepted
+    accepted : (ss : List Sent) (i filled : ℕ) (p b : List ℕ)
+        → length b ≡ room
+        → i ≤ filled
+        → filled ≤ room
+        → (length p ≡ 0 → total ≡ 0)
+        → take filled b ++ (p ++ flatten (pieces ss)) ≡ m .bytes
+        → All Piece (pieces ss)
+        → All (λ s. All (PutIn us) (s .before)) ss
+        → after us (accept words i filled p b) (from (suc i) ss) ≡ ifLast ss (up ss) ∷ give (up ss) ss
+    unfolding callsFrom expectedFrom flatten allArrive
+    accepted [] i filled p b len order inside some-data joins ps js =
+        let so-far : filled + length p ≡ total = omega (arith, simp (length-append, length-take) at (ap length joins)) in
+        let room-left : filled + length p ≤ length b = omega arith in
+        let whole : take total (landed filled p b) ≡ m .bytes =
+        rw (← so-far) (start-landed filled p b room-left ∙ rw append-nil at joins) in
+        let kept = length-landed filled p b room-left in
+        rw (fitting words i filled p b (omega arith) some-data, eq-eqb (filled + length p) total so-far, whole)
+        (ap (λ (l : List (Option HandedUp)). some (asSent m) ∷ l) (continues Fresh (landed filled p b) (fresh-ready (landed filled p b) (kept ∙ len))))
+    accepted (s ∷ ss) i filled p b len order inside some-data joins ps js =
+        let in-all : filled + (length p + length (flatten (pieces (s ∷ ss)))) ≡ total =
+        omega (arith, long s ss, simp (length-append, length-take) at (ap length joins)) in
+        let last = long s ss in
+        let some-p : 0 < length p = pos-of-ne-zero (λ z. let none-at-all = some-data z in omega arith) in
+        let room-left : filled + length p ≤ length b = omega arith in
+        let filled′ = filled + length p in
+        let b′ = landed filled p b in
+        let len′ : length b′ ≡ room = length-landed filled p b room-left ∙ len in
+        let r′ = waiting-ready (suc i) filled′ b′ len′ (omega arith) (omega arith) (omega arith) in
+        let joins′ : take filled′ b′ ++ (s .piece ++ flatten (pieces ss)) ≡ m .bytes =
+        rw (start-landed filled p b room-left, append-assoc (take filled b) p) joins in
+        let then = accepted ss (suc i) filled′ (s .piece) b′ len′ (omega arith) (omega arith) (λ z. absurd (omega arith)) joins′ (ps .1) (js .1) in
+        rw (fitting words i filled p b (omega arith) some-data, ne-eqb filled′ total (λ z. omega arith))
+        (ap (λ (l : List (Option HandedUp)). none ∷ l)
+        (frame-then (up (s ∷ ss)) (suc i) s ss (js .0) (waiting (suc i) filled′) b′ r′
+        (next-frame s ss i filled′ b′ r′ (omega arith) ps js then (s .arrives))))
+
+    -- the facts of a message's cut that its first frame needs
+    abbrev Starts : List ℕ → List ℕ → List (List ℕ) → Type 0
+    Starts bytes p ps = (p ++ flatten ps ≡ bytes) × (length p ≤ pieceMax) × (length p ≡ 0 → length bytes ≡ 0) × All Piece ps
+
+    starts : (bytes p : List ℕ) (ps : List (List ℕ)) → Cut bytes (p ∷ ps) → Starts bytes p ps
+    unfolding flatten
+    starts [] p ps cut =
+        let p-is : p ≡ [] = cc in
+        let ps-is : ps ≡ [] = cc in
+        rw (p-is, ps-is) (refl, omega arith, (λ z. refl), tt)
+    starts (x ∷ xs) p ps cut = (cut .1, cut .0 .0 .1, (λ z. absurd (omega (arith, cut .0 .0 .0))), cut .0 .1)
+
+    one-message : (ss : List Sent) → Cut (m .bytes) (pieces ss) → FirstArrives ss → All (λ s. All (PutIn us) (s .before)) ss
+        → (st : State) (b : List ℕ) → Ready st b → run us st b (from 0 ss) ≡ give (up ss) ss
+    unfolding allArrive
+    one-message [] cut spared js st b r = absurd spared
+    one-message (s ∷ ss) cut spared js st b r =
+        let known = starts (m .bytes) (s .piece) (pieces ss) cut in
+        let stepped = first us st b (ready st b r) e fits refl total bounded (s .piece) (known .1) (rw (r .0) held) in
+        let then = accepted ss 0 0 (s .piece) b (r .0) (omega arith) (omega arith) (known .2) (known .0) (known .3) (js .1) in
+        frame-then (up (s ∷ ss)) 0 s ss (js .0) st b r
+        (rw spared (run-step us st b (frameOf (headerFor e total 0) (s .piece)) _ _ stepped ∙ then))
+
+  -- the whole traffic
+  all-messages : (ts : List Transmission) → All (Legal us room) ts → (js : List (List ℕ)) → All (PutIn us) js → Continues (callsOf us ts js) (expectedOf ts js)
+  unfolding callsOf expectedOf run
+  all-messages [] legal js h st b r = simp append-nil at (put-ins js h st b r [])
+  all-messages (t ∷ ts) legal js h st b r =
+      let l = legal .0 in
+      let fits : Fits (envelopeFor us (t .message)) = record { id = l .id; sender = l .sender; status = l .status; receiver = us-fits } in
+      one-message (t .message) fits (l .bounded) (l .fits) (callsOf us ts js) (expectedOf ts js) (all-messages ts (legal .1) js h)
+      (t .frames) (l .cut) (l .spared) (l .put-in) st b r
+
+pub demand-3 : Demand3
+unfolding consistent
+demand-3 us buffer t us-fits legal = all-messages us (length buffer) us-fits (t .sent) (legal .all) (t .after) (legal .put-in) Fresh buffer (refl, refl)

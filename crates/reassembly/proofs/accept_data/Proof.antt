@@ -1,0 +1,116 @@
+-- `reassembly::accept_data` meets its contract: at each `return` the tests that led there say which answer it is; the data lands from the first
+-- unfilled byte on.
+-- Assumes nothing.
+use mathlib.Core.Path.{refl, sym, _∙_}
+use native.Mathlib.Omega.{arith}
+use Rattle.le.proofs.Parts.{copied-at}
+use Rattle.reassembly.specs.Step.{accept}
+use Rattle.reassembly.proofs.Answers.{as-in, lacking, excess, delivers, wants-more}
+use borrow.Author.Needs.{needs}
+use Rattle.reassembly.proofs.accept_data.Statement.{statement}
+use Rattle.reassembly.proofs.accept_data.Tie as tie
+
+cast-total : tie.Need-cast-total
+cast-total c = search needs
+
+lacks-data-requires : tie.Need-lacks-data-requires
+lacks-data-requires c κs = search needs
+
+refuse-requires : tie.Need-refuse-requires
+refuse-requires c κs = search needs
+
+returns : tie.Need-returns
+returns c =
+    let args = c .before .before .before .before .before .before .args in
+    let w = args .words in
+    let p = args .piece .now in
+    let b = args .buf .now in
+    as-in (accept w (args .index) (args .filled) p b) _ _ _
+    (lacking w (args .index) (args .filled) p b (sym (c .before .before .lacks-data .ensures) ∙ c .before .if1 .taken))
+    (c .refuse .ensures)
+    refl
+
+sub-if2 : tie.Need-sub-if2
+sub-if2 c = search needs
+
+refuse-requires-2 : tie.Need-refuse-requires-2
+refuse-requires-2 c κs = search needs
+
+returns-2 : tie.Need-returns-2
+returns-2 c =
+    let args = c .before .before .before .before .before .before .before .args in
+    let w = args .words in
+    let p = args .piece .now in
+    let b = args .buf .now in
+    as-in (accept w (args .index) (args .filled) p b) _ _ _
+    (excess w (args .index) (args .filled) p b (sym (c .before .before .before .lacks-data .ensures) ∙ c .before .before .if1 .left) (c .before .if2 .taken))
+    (c .refuse2 .ensures)
+    refl
+
+sub-copy : tie.Need-sub-copy
+sub-copy c = search needs
+
+part-copy-start : tie.Need-part-copy-start
+part-copy-start c = search needs
+
+part-copy-end : tie.Need-part-copy-end
+part-copy-end c = search needs
+
+copy-requires : tie.Need-copy-requires
+copy-requires c κs = search needs
+
+add-now-filled : tie.Need-add-now-filled
+add-now-filled c = search needs
+
+same-length : tie.Need-same-length
+same-length c = search needs
+
+returns-3 : tie.Need-returns-3
+returns-3 c =
+    let args = c .before .before .before .before .before .before .before .before .before .before .before .args in
+    let w = args .words in
+    let p = args .piece .now in
+    let b = args .buf .now in
+    as-in (accept w (args .index) (args .filled) p b) _ _ _
+    (delivers w (args .index) (args .filled) p b (sym (c .before .before .before .before .before .before .before .lacks-data .ensures) ∙ c .before .before .before .before .before .before .if1 .left) (c .before .before .before .before .before .if2 .left) (c .if3 .taken))
+    refl
+    (copied-at p b _ (args .filled) (omega arith) (c .before .before .before .copy .ensures))
+
+add-t9 : tie.Need-add-t9
+add-t9 c = search needs
+
+same-length-2 : tie.Need-same-length-2
+same-length-2 c = search needs
+
+returns-4 : tie.Need-returns-4
+returns-4 c =
+    let args = c .before .before .before .before .before .before .before .before .before .before .before .args in
+    let w = args .words in
+    let p = args .piece .now in
+    let b = args .buf .now in
+    as-in (accept w (args .index) (args .filled) p b) _ _ _
+    (wants-more w (args .index) (args .filled) p b (sym (c .before .before .before .before .before .before .before .lacks-data .ensures) ∙ c .before .before .before .before .before .before .if1 .left) (c .before .before .before .before .before .if2 .left) (c .if3 .left))
+    refl
+    (copied-at p b _ (args .filled) (omega arith) (c .before .before .before .copy .ensures))
+
+pub accept-data-spec : {M : Type 1} → statement M
+accept-data-spec =
+    tie.close
+    (tie.spec
+    cast-total
+    lacks-data-requires
+    refuse-requires
+    returns
+    sub-if2
+    refuse-requires-2
+    returns-2
+    sub-copy
+    part-copy-start
+    part-copy-end
+    copy-requires
+    add-now-filled
+    same-length
+    returns-3
+    add-t9
+    same-length-2
+    returns-4)

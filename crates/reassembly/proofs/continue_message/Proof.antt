@@ -1,0 +1,111 @@
+-- `reassembly::continue_message` meets its contract: at each `return` the tests that led there say which answer it is. The open state is consistent, so
+-- its message fits the buffer.
+-- Assumes nothing.
+use mathlib.Core.Path.{refl, sym, ap, _∙_}
+use native.Mathlib.Omega.{arith}
+use borrow.Author.Tests.{not-true, not-false}
+use lib.ListN.{length}
+use Rattle.reassembly.specs.Step.{consistent, proceed}
+use Rattle.reassembly.specs.declared.State.{State}
+use Rattle.reassembly.proofs.Answers.{as-in, Consistent, consistent-open, none-open, other-index, other-words, goes-on}
+use borrow.Author.Needs.{needs}
+use Rattle.reassembly.proofs.continue_message.Statement.{statement}
+use Rattle.reassembly.proofs.continue_message.Tie as tie
+
+enum-known-state : tie.Need-enum-known-state
+enum-known-state c = search needs
+
+enum-told : tie.Need-enum-told
+enum-told c = search needs
+
+refuse-requires : tie.Need-refuse-requires
+refuse-requires c κs = search needs
+
+returns : tie.Need-returns
+returns c =
+    let args = c .before .before .before .before .before .args in
+    let h = args .h in
+    let p = args .piece .now in
+    let b = args .buf .now in
+    let given = c .before .enum-told .given in
+    as-in (proceed h p (args .state) b) _ _ _
+    (ap (λ (s : State). proceed h p s b) (given .1) ∙ none-open h p b)
+    (c .refuse .ensures)
+    refl
+
+cast-if1 : tie.Need-cast-if1
+cast-if1 c = search needs
+
+refuse-requires-2 : tie.Need-refuse-requires-2
+refuse-requires-2 c κs = search needs
+
+returns-2 : tie.Need-returns-2
+returns-2 c =
+    let args = c .before .before .before .before .before .before .before .before .before .args in
+    let h = args .h in
+    let p = args .piece .now in
+    let b = args .buf .now in
+    let given = c .before .before .before .before .before .state .given in
+    as-in (proceed h p (args .state) b) _ _ _
+    (ap (λ (s : State). proceed h p s b) (given .1) ∙ other-index h p b (given .0 .0) (c .before .if1 .taken))
+    (c .refuse2 .ensures)
+    refl
+
+same-words-requires : tie.Need-same-words-requires
+same-words-requires c κs = search needs
+
+refuse-requires-3 : tie.Need-refuse-requires-3
+refuse-requires-3 c κs = search needs
+
+returns-3 : tie.Need-returns-3
+returns-3 c =
+    let args = c .before .before .before .before .before .before .before .before .before .before .before .before .args in
+    let h = args .h in
+    let p = args .piece .now in
+    let b = args .buf .now in
+    let given = c .before .before .before .before .before .before .before .before .state .given in
+    as-in (proceed h p (args .state) b) _ _ _
+    (ap (λ (s : State). proceed h p s b) (given .1) ∙ other-words h p b (given .0 .0) (c .before .before .before .before .if1 .left) (sym (c .before .before .same-words .ensures) ∙ not-true _ (c .before .if2 .taken)))
+    (c .refuse3 .ensures)
+    refl
+
+accept-data-requires : tie.Need-accept-data-requires
+accept-data-requires c κs =
+    let start = c .before .before .before .before .before .before .before .before .before .before .before .before in
+    let room = length (start .args .buf .now) in
+    let given = c .before .before .before .before .before .before .before .before .state .given in
+    let known = consistent-open (given .0 .0) room (sym (ap (λ (s : State). consistent s room) (given .1)) ∙ start .pre) in
+    (omega arith, (known .held, omega arith))
+
+same-length : tie.Need-same-length
+same-length c = search needs
+
+returns-4 : tie.Need-returns-4
+returns-4 c =
+    let args = c .before .before .before .before .before .before .before .before .before .before .before .before .before .before .before .args in
+    let h = args .h in
+    let p = args .piece .now in
+    let b = args .buf .now in
+    let given = c .before .before .before .before .before .before .before .before .before .before .before .state .given in
+    as-in (proceed h p (args .state) b) _ _ _
+    (ap (λ (s : State). proceed h p s b) (given .1) ∙ goes-on h p b (given .0 .0) (c .before .before .before .before .before .before .before .if1 .left) (sym (c .before .before .before .before .before .same-words .ensures) ∙ not-false _ (c .before .before .before .before .if2 .left)))
+    (c .before .before .accept-data .ensures .0)
+    (c .before .before .accept-data .ensures .1)
+
+pub continue-message-spec : {M : Type 1} → statement M
+continue-message-spec =
+    tie.close
+    (tie.spec
+    enum-known-state
+    enum-told
+    refuse-requires
+    returns
+    cast-if1
+    refuse-requires-2
+    returns-2
+    same-words-requires
+    refuse-requires-3
+    returns-3
+    accept-data-requires
+    same-length
+    returns-4)

@@ -1,0 +1,67 @@
+-- `reassembly::is_consistent` meets its contract: at each `return` the tests that led there say which it is.
+-- Assumes nothing.
+use mathlib.Core.Path.{sym, ap, _∙_}
+use Rattle.reassembly.specs.Step.{consistent}
+use Rattle.reassembly.specs.declared.State.{State}
+use Rattle.reassembly.proofs.Answers.{fresh, no-next, next-ahead, all-filled, over-long, by-room}
+use borrow.Author.Needs.{needs}
+use Rattle.reassembly.proofs.is_consistent.Statement.{statement}
+use Rattle.reassembly.proofs.is_consistent.Tie as tie
+
+enum-known-state : tie.Need-enum-known-state
+enum-known-state c = search needs
+
+enum-told : tie.Need-enum-told
+enum-told c = search needs
+
+returns : tie.Need-returns
+returns c =
+    let args = c .before .before .args in
+    sym (ap (λ (s : State). consistent s (args .room)) (c .enum-told .given .1) ∙ fresh (args .room))
+
+cast-total : tie.Need-cast-total
+cast-total c = search needs
+
+returns-2 : tie.Need-returns-2
+returns-2 c =
+    let args = c .before .before .before .before .before .before .before .args in
+    let given = c .before .before .before .before .before .state .given in
+    sym (ap (λ (s : State). consistent s (args .room)) (given .1) ∙ no-next (given .0 .0) (args .room) (search needs))
+
+returns-3 : tie.Need-returns-3
+returns-3 c =
+    let args = c .before .before .before .before .before .before .before .before .before .args in
+    let given = c .before .before .before .before .before .before .before .state .given in
+    sym (ap (λ (s : State). consistent s (args .room)) (given .1) ∙ next-ahead (given .0 .0) (args .room) (search needs) (search needs))
+
+returns-4 : tie.Need-returns-4
+returns-4 c =
+    let args = c .before .before .before .before .before .before .before .before .before .before .before .args in
+    let given = c .before .before .before .before .before .before .before .before .before .state .given in
+    sym (ap (λ (s : State). consistent s (args .room)) (given .1) ∙ all-filled (given .0 .0) (args .room) (search needs) (search needs) (search needs))
+
+returns-5 : tie.Need-returns-5
+returns-5 c =
+    let args = c .before .before .before .before .before .before .before .before .before .before .before .before .args in
+    let given = c .before .before .before .before .before .before .before .before .before .before .state .given in
+    sym (ap (λ (s : State). consistent s (args .room)) (given .1) ∙ over-long (given .0 .0) (args .room) (search needs) (search needs) (search needs) (search needs))
+
+returns-6 : tie.Need-returns-6
+returns-6 c =
+    let args = c .before .before .before .before .before .before .before .before .before .before .before .before .args in
+    let given = c .before .before .before .before .before .before .before .before .before .before .state .given in
+    sym (ap (λ (s : State). consistent s (args .room)) (given .1) ∙ by-room (given .0 .0) (args .room) (search needs) (search needs) (search needs) (search needs))
+
+pub is-consistent-spec : {M : Type 1} → statement M
+is-consistent-spec =
+    tie.close
+    (tie.spec
+    enum-known-state
+    enum-told
+    returns
+    cast-total
+    returns-2
+    returns-3
+    returns-4
+    returns-5
+    returns-6)

@@ -1,0 +1,223 @@
+// Reassembly of messages from their frames: one call a frame, over a state that is handed in and back,
+// and a buffer that the caller lends.
+use frame::Header;
+use frame::Words;
+use frame::read::Parsed;
+ghost use mathlib.Core.Path.{_≡_};
+ghost use mathlib.Core.Bool.{true};
+ghost use Prim.Native.Nat.{_≤_, _<_};
+ghost use lib.ListN.{length};
+ghost use Rattle.frame.specs.Layout.{messageMax};
+ghost use Rattle.reassembly.specs.Step.{consistent, sameWords, numberOf, accept, begin, proceed, stepOf};
+ghost use Rattle.reassembly.specs.Helpers.{dropping, lacksData, unreadOf};
+
+// A message that is open: its carried words, the Index that comes next, and how many of its bytes stand
+// in the buffer.
+pub struct Progress {
+    pub words: Words,
+    pub next: usize,
+    pub filled: usize,
+}
+
+pub enum State {
+    Fresh,
+    Open(Progress),
+}
+
+// Why a frame is refused.
+pub enum Reason {
+    // The frame does not parse.
+    Unread(frame::read::Reason),
+    NothingOpen,
+    OutOfOrder,
+    OtherWords,
+    NoData,
+    TooMuchData,
+    MessageLong,
+    BadState,
+}
+
+pub enum Verdict {
+    More,
+    // The carried words, and the message's length: it is the buffer's first bytes, as many as that.
+    Delivered(Words, usize),
+    Refused(Reason),
+}
+
+// A verdict together with the state after it.
+pub struct Answer {
+    pub verdict: Verdict,
+    pub state: State,
+}
+
+impl Reason {
+    // The refusal's number.
+    pub fn number(self) -> u32
+        ensures { λ r. ⌜ r ≡ numberOf self ⌝ }
+    {
+        match self {
+            Reason::Unread(reason) => reason.number(),
+            Reason::NothingOpen => 5,
+            Reason::OutOfOrder => 6,
+            Reason::OtherWords => 7,
+            Reason::NoData => 8,
+            Reason::TooMuchData => 9,
+            Reason::MessageLong => 10,
+            Reason::BadState => 11,
+        }
+    }
+}
+
+// A refusal that leaves nothing open.
+fn refuse(reason: Reason) -> Answer
+    ensures { λ r. ⌜ r ≡ dropping reason ⌝ }
+{
+    Answer {
+        verdict: Verdict::Refused(reason),
+        state: State::Fresh,
+    }
+}
+
+// Whether a state is fresh or consistent, over a buffer of `room` bytes.
+fn is_consistent(state: State, room: usize) -> bool
+    ensures { λ r. ⌜ r ≡ consistent state room ⌝ }
+{
+    let State::Open(open) = state else {
+        return true;
+    };
+    let words = open.words;
+    let total = words.total as usize;
+    if open.next < 1 {
+        return false;
+    }
+    if open.filled < open.next {
+        return false;
+    }
+    if total <= open.filled {
+        return false;
+    }
+    if Header::MESSAGE_MAX < total {
+        return false;
+    }
+    total <= room
+}
+
+fn same_words(v: Words, w: Words) -> bool
+    ensures { λ r. ⌜ r ≡ sameWords v w ⌝ }
+{
+    if v.id != w.id {
+        return false;
+    }
+    if v.sender != w.sender {
+        return false;
+    }
+    if v.status != w.status {
+        return false;
+    }
+    v.total == w.total
+}
+
+// Whether data is missing: there is none, though the message is not empty.
+fn lacks_data(size: usize, total: usize) -> bool
+    ensures { λ r. ⌜ r ≡ lacksData size total ⌝ }
+{
+    if size == 0 { total != 0 } else { false }
+}
+
+// The data of the frame with this Index, where `filled` bytes stand in the buffer.
+fn accept_data(words: Words, index: usize, filled: usize, piece: &[u8], buf: &mut [u8]) -> Answer
+    requires { ⌜ filled ≤ words .total ⌝ }
+    requires { ⌜ words .total ≤ length (now buf) ⌝ }
+    requires { ⌜ index < messageMax ⌝ }
+    ensures { λ r. ⌜ r ≡ accept words index filled (now (piece .entry)) (now (buf .entry)) .answer ⌝ }
+    ensures { λ _. ⌜ now (buf .exit) ≡ accept words index filled (now (piece .entry)) (now (buf .entry)) .buffer ⌝ }
+{
+    let total = words.total as usize;
+    if lacks_data(piece.len(), total) {
+        return refuse(Reason::NoData);
+    }
+    if total - filled < piece.len() {
+        return refuse(Reason::TooMuchData);
+    }
+    le::copy(piece, &mut buf[filled..]);
+    let now_filled = filled + piece.len();
+    if now_filled == total {
+        return Answer {
+            verdict: Verdict::Delivered(words, total),
+            state: State::Fresh,
+        };
+    }
+    Answer {
+        verdict: Verdict::More,
+        state: State::Open(Progress {
+            words,
+            next: index + 1,
+            filled: now_filled,
+        }),
+    }
+}
+
+// A frame with Index 0: it begins anew, whatever was open.
+fn begin_message(words: Words, piece: &[u8], buf: &mut [u8]) -> Answer
+    ensures { λ r. ⌜ r ≡ begin words (now (piece .entry)) (now (buf .entry)) .answer ⌝ }
+    ensures { λ _. ⌜ now (buf .exit) ≡ begin words (now (piece .entry)) (now (buf .entry)) .buffer ⌝ }
+{
+    let total = words.total as usize;
+    if Header::MESSAGE_MAX < total {
+        return refuse(Reason::MessageLong);
+    }
+    if buf.len() < total {
+        return refuse(Reason::MessageLong);
+    }
+    accept_data(words, 0, 0, piece, buf)
+}
+
+// A frame with any other Index: it goes on with what is open.
+fn continue_message(h: Header, piece: &[u8], state: State, buf: &mut [u8]) -> Answer
+    requires { ⌜ consistent state (length (now buf)) ≡ true ⌝ }
+    ensures { λ r. ⌜ r ≡ proceed h (now (piece .entry)) state (now (buf .entry)) .answer ⌝ }
+    ensures { λ _. ⌜ now (buf .exit) ≡ proceed h (now (piece .entry)) state (now (buf .entry)) .buffer ⌝ }
+{
+    let State::Open(open) = state else {
+        return refuse(Reason::NothingOpen);
+    };
+    if h.index as usize != open.next {
+        return refuse(Reason::OutOfOrder);
+    }
+    let words = open.words;
+    if !same_words(h.words, words) {
+        return refuse(Reason::OtherWords);
+    }
+    accept_data(words, open.next, open.filled, piece, buf)
+}
+
+fn unread(parsed: Parsed) -> Reason
+    ensures { λ r. ⌜ r ≡ unreadOf parsed ⌝ }
+{
+    match parsed {
+        Parsed::Refused(reason) => Reason::Unread(reason),
+        Parsed::Header(_) => Reason::Unread(frame::read::Reason::FrameShort),
+    }
+}
+
+// One call: a frame, for the receiver `us`, with the state and the buffer as the last call left them.
+pub fn step(state: State, frame: &[u8], us: u32, buf: &mut [u8]) -> Answer
+    ensures { λ r. ⌜ r ≡ stepOf us state (now (buf .entry)) (now (frame .entry)) .answer ⌝ }
+    ensures { λ _. ⌜ now (buf .exit) ≡ stepOf us state (now (buf .entry)) (now (frame .entry)) .buffer ⌝ }
+{
+    if !is_consistent(state, buf.len()) {
+        return refuse(Reason::BadState);
+    }
+    let parsed = frame::read::parse(frame, us);
+    let Parsed::Header(h) = parsed else {
+        return Answer {
+            verdict: Verdict::Refused(unread(parsed)),
+            state,
+        };
+    };
+    let piece = frame::read::data(frame);
+    if h.index == 0 {
+        return begin_message(h.words, piece, buf);
+    }
+    continue_message(h, piece, state, buf)
+}
