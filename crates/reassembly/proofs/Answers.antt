@@ -5,7 +5,6 @@ use mathlib.Core.Bool.{Bool, true, false, not, _&&_}
 use mathlib.Core.Path.{_≡_, refl, sym, ap, _∙_}
 use mathlib.Core.List.{List}
 use borrow.Author.Tests.{lt-ltb, le-ltb, lt-leb, le-leb, eq-eqb, ne-eqb, leb-true, ltb-true}
-use native.Mathlib.Numerals.{add-one}
 use native.Mathlib.Omega.{arith}
 use lib.Dec.{leb, ltb, eqb}
 use lib.ListN.{length}
@@ -15,14 +14,17 @@ use Rattle.frame.specs.declared.Header.{Header}
 use Rattle.frame.specs.declared.Words.{Words}
 use Rattle.frame.specs.declared.read.Parsed.the-variants as Parsed
 use Rattle.frame.specs.declared.read.Reason.{Reason}
-use Rattle.reassembly.specs.Step.{Stepped, consistent, sameWords, refused, landed, accept, begin, proceed, received, stepOf}
+use Rattle.reassembly.specs.Step.{Stepped, consistent, sameWords, refused, landed, delivered, wanting, taken, isNext, isFirst, accept, begin, proceed, received, stepOf}
 use Rattle.reassembly.specs.Helpers.{lacksData}
 use Rattle.reassembly.specs.declared.Answer.{Answer}
 use Rattle.reassembly.specs.declared.Progress.{Progress}
 use Rattle.reassembly.specs.declared.State.{State}
 use Rattle.reassembly.specs.declared.State.the-variants.{Fresh, Open}
-use Rattle.reassembly.specs.declared.Verdict.the-variants.{More, Delivered}
 use Rattle.reassembly.specs.declared.Reason.the-variants.{Unread, NothingOpen, OutOfOrder, OtherWords, NoData, TooMuchData, MessageLong, BadState}
+
+-- what follows from an equation of two constructors
+pub apart : {A : Type 0} → _≡_ {A = ℕ} 0 1 → A
+apart z = absurd (omega arith)
 
 -- an answer and a buffer that are those of a step's law are those of the step
 pub as-in : (st law : Stepped) (answer : Answer) (buffer : List ℕ) → st ≡ law → answer ≡ law .answer → buffer ≡ law .buffer
@@ -70,11 +72,11 @@ module _ (p : Progress) (room : ℕ) where
               le-leb (p .words .total) messageMax h,
             )
 
--- a consistent open state: its message fits the buffer, is not whole, and its next Index is below the longest message
 pub both : (a b : Bool) → a && b ≡ true → (a ≡ true) × (b ≡ true)
 both true b e = (refl, e)
-both false b e = absurd (let z : _≡_ {A = ℕ} 0 1 = cc in omega arith)
+both false b e = apart (cc)
 
+-- what is known of a consistent open state
 pub record Consistent (p : Progress) (room : ℕ) : Type 0 where
   pub order : p .next ≤ p .filled
   pub less : p .filled < p .words .total
@@ -106,17 +108,17 @@ module _ (w : Words) (i filled : ℕ) (p b : List ℕ) where
   unfolding accept
   excess h l = rw (h, lt-ltb (w .total - filled) (length p) l)
 
-  module _ (some : lacksData (length p) (w .total) ≡ false) (fits : length p ≤ w .total - filled) where
-    pub delivers : filled + length p ≡ w .total
-        → accept w i filled p b ≡ record { answer = record { verdict = Delivered w (w .total); state = Fresh }; buffer = landed filled p b }
-    unfolding accept
-    delivers h = rw (some, le-ltb (w .total - filled) (length p) fits, eq-eqb (filled + length p) (w .total) h)
+  pub data-taken : lacksData (length p) (w .total) ≡ false → length p ≤ w .total - filled → accept w i filled p b ≡ taken w i (filled + length p) (landed filled p b)
+  unfolding accept
+  data-taken h l = rw (h, le-ltb (w .total - filled) (length p) l)
 
-    pub wants-more : (filled + length p ≡ w .total → ⊥)
-        → accept w i filled p b
-        ≡ record { answer = record { verdict = More; state = Open (record { words = w; next = i + 1; filled = filled + length p }) }; buffer = landed filled p b }
-    unfolding accept
-    wants-more h = rw (some, le-ltb (w .total - filled) (length p) fits, ne-eqb (filled + length p) (w .total) h, add-one i)
+-- all of it, or not yet
+module _ (w : Words) (i filled : ℕ) (b : List ℕ) where
+  pub whole : filled ≡ w .total → taken w i filled b ≡ delivered w b
+  whole h = rw (eq-eqb filled (w .total) h)
+
+  pub not-whole : (filled ≡ w .total → ⊥) → taken w i filled b ≡ wanting w i filled b
+  not-whole h = rw (ne-eqb filled (w .total) h)
 
 -- 10, and a message that begins
 module _ (w : Words) (p b : List ℕ) where
@@ -139,21 +141,21 @@ module _ (h : Header) (p b : List ℕ) where
   none-open = refl
 
   module _ (q : Progress) where
-    pub other-index : (h .index ≡ q .next → ⊥) → proceed h p (Open q) b ≡ refused OutOfOrder Fresh b
+    pub other-index : isNext h q ≡ false → proceed h p (Open q) b ≡ refused OutOfOrder (Open q) b
     unfolding proceed
-    other-index n = rw (ne-eqb (h .index) (q .next) n)
+    other-index i = rw i
 
-    pub other-words : h .index ≡ q .next → sameWords (h .words) (q .words) ≡ false → proceed h p (Open q) b ≡ refused OtherWords Fresh b
+    pub other-words : isNext h q ≡ true → sameWords (h .words) (q .words) ≡ false → proceed h p (Open q) b ≡ refused OtherWords (Open q) b
     unfolding proceed
-    other-words i w = rw (eq-eqb (h .index) (q .next) i, w)
+    other-words i w = rw (i, w)
 
-    pub goes-on : h .index ≡ q .next → sameWords (h .words) (q .words) ≡ true → proceed h p (Open q) b ≡ accept (q .words) (q .next) (q .filled) p b
+    pub goes-on : isNext h q ≡ true → sameWords (h .words) (q .words) ≡ true → proceed h p (Open q) b ≡ accept (q .words) (q .next) (q .filled) p b
     unfolding proceed
-    goes-on i w = rw (eq-eqb (h .index) (q .next) i, w)
+    goes-on i w = rw (i, w)
 
 -- 11, 1 to 4, and by the Index
 module _ (us : ℕ) (s : State) (b f : List ℕ) where
-  pub bad-state : consistent s (length b) ≡ false → stepOf us s b f ≡ refused BadState Fresh b
+  pub bad-state : consistent s (length b) ≡ false → stepOf us s b f ≡ refused BadState s b
   unfolding stepOf
   bad-state h = rw h
 
@@ -162,10 +164,10 @@ module _ (us : ℕ) (s : State) (b f : List ℕ) where
     unfolding stepOf received
     unread-frame reason e = rw (ok, e)
 
-    pub index-zero : (h : Header) → parsed us f ≡ Parsed.Header h → h .index ≡ 0 → stepOf us s b f ≡ begin (h .words) (dataOf f) b
+    pub index-zero : (h : Header) → parsed us f ≡ Parsed.Header h → isFirst h ≡ true → stepOf us s b f ≡ begin (h .words) (dataOf f) b
     unfolding stepOf received
-    index-zero h e i = rw (ok, e, eq-eqb (h .index) 0 i)
+    index-zero h e i = rw (ok, e, i)
 
-    pub index-more : (h : Header) → parsed us f ≡ Parsed.Header h → (h .index ≡ 0 → ⊥) → stepOf us s b f ≡ proceed h (dataOf f) s b
+    pub index-more : (h : Header) → parsed us f ≡ Parsed.Header h → isFirst h ≡ false → stepOf us s b f ≡ proceed h (dataOf f) s b
     unfolding stepOf received
-    index-more h e i = rw (ok, e, ne-eqb (h .index) 0 i)
+    index-more h e i = rw (ok, e, i)

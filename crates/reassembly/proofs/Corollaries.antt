@@ -1,16 +1,17 @@
--- What follows for states and runs: `stays-consistent`, `never-bad`, `never-in-vain`, `written-is-handed-up`.
+-- What follows for states and runs: `stays-consistent`, `never-bad`, `refusal-leaves`, `never-in-vain`, `written-is-handed-up`.
 -- Assumes nothing.
 use Prim.Native.Nat.{ℕ, zero, suc, _+_, _-_, _^_, _≤_, _<_}
-use mathlib.Core.Bool.{Bool, true, false, cond, not, _&&_, _||_}
+use mathlib.Core.Bool.{Bool, true, false}
 use mathlib.Core.Path.{_≡_, refl, sym, ap, ap₂, _∙_}
-use mathlib.Core.List.{List, [], _∷_, _++_, map, flatten, append-assoc}
+use mathlib.Core.List.{List, [], _∷_, _++_, map, flatten}
 use mathlib.Core.Option.{Option, none, some}
 use native.Mathlib.Nat.{pos-of-ne-zero}
 use native.Mathlib.Omega.{arith}
 use borrow.Author.Tests.{ltb-true, ltb-false, eqb-true, eqb-false, eq-eqb, le-leb, not-false}
-use lib.Dec.{ltb, leb, eqb}
+use lib.Dec.{ltb, eqb}
 use lib.ListN.{length, replicate}
 use Rattle.frame.specs.Layout.{messageMax, headerFor, frameOf}
+use Rattle.frame.specs.Reading as Reading
 use Rattle.frame.specs.Reading.{parsed, dataOf}
 use Rattle.frame.specs.Framing.{All, Cut, framesFrom, Framing}
 use Rattle.frame.specs.Statements.{countUp}
@@ -19,140 +20,178 @@ use Rattle.frame.specs.declared.Header.{Header}
 use Rattle.frame.specs.declared.Words.{Words}
 use Rattle.frame.specs.declared.read.Parsed.{Parsed}
 use Rattle.frame.specs.declared.read.Parsed.the-variants as Parsed
-use Rattle.reassembly.specs.Step.{Stepped, consistent, sameWords, refused, landed, accept, begin, proceed, stepOf}
-use Rattle.reassembly.specs.Run.{HandedUp, run, verdicts}
-use Rattle.reassembly.specs.Traffic.{Message, Sent, Transmission, Traffic, PutIn, FirstArrives, Legal, LegalTraffic, envelopeFor, callsFrom, callsOf, allArrive, asSent, nothing, expectedFrom, gives, expectedOf}
+use Rattle.frame.specs.declared.read.Reason.{Reason as ReadReason}
+use Rattle.frame.specs.declared.read.Reason.the-variants.{FrameShort, FrameLong, WrongType, OtherReceiver}
+use Rattle.frame.proofs.Theorems.{writes-a-framing}
+use Rattle.reassembly.specs.Step.{Stepped, numberOf, consistent, sameWords, stateAfter, refused, waiting, landed, delivered, wanting, isNext, isFirst, accept, begin, proceed, stepOf}
+use Rattle.reassembly.specs.Run.{HandedUp, handedUp, run, verdicts}
+use Rattle.reassembly.specs.Traffic.{Sent, Transmission, Traffic, PutIn, Legal, envelopeFor, callsFrom, callsOf, calls, allArrive, asSent, expectedFrom, gives, expectedOf, expected}
 use Rattle.reassembly.specs.Helpers.{lacksData}
-use Rattle.reassembly.specs.Statements.{NotBad, StaysConsistent, NeverBad, NeverInVain, Posting, LegalPosting, framesOf, handsUp, WrittenIsHandedUp}
+use Rattle.reassembly.specs.Statements.{NotBad, StaysConsistent, NeverBad, RefusalLeaves, NeverInVain, Outgoing, LegalOutgoing, framesOf, handsUp, WrittenIsHandedUp}
 use Rattle.reassembly.specs.declared.Progress.{Progress}
 use Rattle.reassembly.specs.declared.State.{State}
 use Rattle.reassembly.specs.declared.State.the-variants.{Fresh, Open}
-use Rattle.reassembly.proofs.Answers.{both, fresh, by-room, consistent-open, lacking, excess, delivers, wants-more, over-limit, over-buffer, begins, none-open, other-index, other-words, goes-on, unread-frame, index-zero, index-more}
-use Rattle.frame.proofs.Theorems.{writes-a-framing}
+use Rattle.reassembly.specs.declared.Reason.{Reason}
+use Rattle.reassembly.specs.declared.Reason.the-variants.{Unread, NothingOpen, OutOfOrder, OtherWords, NoData, TooMuchData, MessageLong, BadState}
+use Rattle.reassembly.specs.declared.Verdict.{Verdict}
+use Rattle.reassembly.specs.declared.Verdict.the-variants.{Refused}
+use Rattle.reassembly.proofs.Answers.{apart, fresh, by-room, consistent-open, lacking, excess, data-taken, whole, not-whole, over-limit, over-buffer, begins, none-open, other-index, other-words, goes-on, bad-state, unread-frame, index-zero, index-more}
 use Rattle.reassembly.proofs.Steps.{length-landed}
-use Rattle.reassembly.proofs.Theorem.{demand-3}
+use Rattle.reassembly.proofs.Theorem.{Ready, Continues, all-messages, demand-3}
 
--- a step after which one can go on
-abbrev Safe : Stepped → ℕ → Type 0
-Safe st room = NotBad (st .answer .verdict) × (consistent (st .answer .state) room ≡ true) × (length (st .buffer) ≡ room)
-
--- two answers that no equation joins
-abbrev apart : {A : Type 0} → _≡_ {A = ℕ} 0 1 → A
-apart z = absurd (omega arith)
+-- what a step from a fresh or consistent state can come to: a refusal other than 11, a message, or an open state that is consistent again
+data Outcome (s : State) (b : List ℕ) : Stepped → Type 0 where
+  refuses : (reason : Reason) → (reason ≡ BadState → ⊥) → Outcome s b (refused reason s b)
+  delivers : (w : Words) (b′ : List ℕ) → length b′ ≡ length b → Outcome s b (delivered w b′)
+  wants : (w : Words) (i filled : ℕ) (b′ : List ℕ) → length b′ ≡ length b → consistent (waiting w (suc i) filled) (length b) ≡ true → Outcome s b (wanting w i filled b′)
 
 lacks-none : (n total : ℕ) → lacksData n total ≡ false → n ≡ 0 → total ≡ 0
 lacks-none n total h e = eqb-true total 0 (not-false (eqb total 0) (rw (eq-eqb n 0 e) at h))
 
-accept-safe : (w : Words) (i filled : ℕ) (p b : List ℕ) → i ≤ filled → filled ≤ w .total → w .total ≤ messageMax → w .total ≤ length b → Safe (accept w i filled p b) (length b)
-accept-safe w i filled p b order part bounded held = by-data (lacksData (length p) (w .total)) refl
-  where
-    by-end : lacksData (length p) (w .total) ≡ false → length p ≤ w .total - filled → (whole : Bool) → eqb (filled + length p) (w .total) ≡ whole → Safe (accept w i filled p b) (length b)
-    by-end present fits true e =
-        let h = eqb-true (filled + length p) (w .total) e in
-        rw (delivers w i filled p b present fits h) ((λ q. apart (cc)), fresh (length b), length-landed filled p b (omega arith))
-    by-end present fits false e =
-        let h = eqb-false (filled + length p) (w .total) e in
-        let present-p : 0 < length p = pos-of-ne-zero (λ z. h (let none-at-all = lacks-none (length p) (w .total) present z in omega arith)) in
-        let less : filled + length p < w .total = omega arith in
-        let q : Progress = record { words = w; next = i + 1; filled = filled + length p } in
-        rw (wants-more w i filled p b present fits h)
-        ((λ q. apart (cc)), by-room q (length b) (omega arith) (omega arith) less bounded ∙ le-leb (w .total) (length b) held, length-landed filled p b (omega arith))
-
-    by-size : lacksData (length p) (w .total) ≡ false → (much : Bool) → ltb (w .total - filled) (length p) ≡ much → Safe (accept w i filled p b) (length b)
-    by-size present true e = rw (excess w i filled p b present (ltb-true (w .total - filled) (length p) e)) ((λ q. apart (cc)), fresh (length b), refl)
-    by-size present false e = by-end present (ltb-false (w .total - filled) (length p) e) _ refl
-
-    by-data : (lacks : Bool) → lacksData (length p) (w .total) ≡ lacks → Safe (accept w i filled p b) (length b)
-    by-data true e = rw (lacking w i filled p b e) ((λ q. apart (cc)), fresh (length b), refl)
-    by-data false e = by-size e _ refl
-
-module _ (b : List ℕ) where
-  begin-safe : (w : Words) (p : List ℕ) → Safe (begin w p b) (length b)
-  begin-safe w p = by-limit (ltb messageMax (w .total)) refl
+module _ (s : State) (b : List ℕ) where
+  accept-outcome : (w : Words) (i filled : ℕ) (p : List ℕ) → i ≤ filled → filled ≤ w .total → w .total ≤ messageMax → w .total ≤ length b
+      → Outcome s b (accept w i filled p b)
+  accept-outcome w i filled p order part bounded held = by-data (lacksData (length p) (w .total)) refl
     where
-      by-buffer : w .total ≤ messageMax → (long : Bool) → ltb (length b) (w .total) ≡ long → Safe (begin w p b) (length b)
-      by-buffer bounded true e = rw (over-buffer w p b bounded (ltb-true (length b) (w .total) e)) ((λ q. apart (cc)), fresh (length b), refl)
+      by-end : lacksData (length p) (w .total) ≡ false → length p ≤ w .total - filled → (all : Bool) → eqb (filled + length p) (w .total) ≡ all
+          → Outcome s b (accept w i filled p b)
+      by-end present fits true e =
+          let h = eqb-true (filled + length p) (w .total) e in
+          rw (data-taken w i filled p b present fits ∙ whole w i (filled + length p) (landed filled p b) h)
+          (delivers w (landed filled p b) (length-landed filled p b (omega arith)))
+      by-end present fits false e =
+          let h = eqb-false (filled + length p) (w .total) e in
+          let some-p : 0 < length p = pos-of-ne-zero (λ z. h (let none-at-all = lacks-none (length p) (w .total) present z in omega arith)) in
+          let less : filled + length p < w .total = omega arith in
+          let q : Progress = record { words = w; next = suc i; filled = filled + length p } in
+          let again = by-room q (length b) (omega arith) (omega arith) less bounded ∙ le-leb (w .total) (length b) held in
+          rw (data-taken w i filled p b present fits ∙ not-whole w i (filled + length p) (landed filled p b) h)
+          (wants w i (filled + length p) (landed filled p b) (length-landed filled p b (omega arith)) again)
+
+      by-size : lacksData (length p) (w .total) ≡ false → (much : Bool) → ltb (w .total - filled) (length p) ≡ much → Outcome s b (accept w i filled p b)
+      by-size present true e = rw (excess w i filled p b present (ltb-true (w .total - filled) (length p) e)) (refuses TooMuchData (λ q. apart (cc)))
+      by-size present false e = by-end present (ltb-false (w .total - filled) (length p) e) _ refl
+
+      by-data : (lacks : Bool) → lacksData (length p) (w .total) ≡ lacks → Outcome s b (accept w i filled p b)
+      by-data true e = rw (lacking w i filled p b e) (refuses NoData (λ q. apart (cc)))
+      by-data false e = by-size e _ refl
+
+  begin-outcome : (w : Words) (p : List ℕ) → Outcome s b (begin w p b)
+  begin-outcome w p = by-limit (ltb messageMax (w .total)) refl
+    where
+      by-buffer : w .total ≤ messageMax → (long : Bool) → ltb (length b) (w .total) ≡ long → Outcome s b (begin w p b)
+      by-buffer bounded true e = rw (over-buffer w p b bounded (ltb-true (length b) (w .total) e)) (refuses MessageLong (λ q. apart (cc)))
       by-buffer bounded false e =
           let held = ltb-false (length b) (w .total) e in
-          rw (begins w p b bounded held) (accept-safe w 0 0 p b (omega arith) (omega arith) bounded held)
+          rw (begins w p b bounded held) (accept-outcome w 0 0 p (omega arith) (omega arith) bounded held)
 
-      by-limit : (long : Bool) → ltb messageMax (w .total) ≡ long → Safe (begin w p b) (length b)
-      by-limit true e = rw (over-limit w p b (ltb-true messageMax (w .total) e)) ((λ q. apart (cc)), fresh (length b), refl)
+      by-limit : (long : Bool) → ltb messageMax (w .total) ≡ long → Outcome s b (begin w p b)
+      by-limit true e = rw (over-limit w p b (ltb-true messageMax (w .total) e)) (refuses MessageLong (λ q. apart (cc)))
       by-limit false e = by-buffer (ltb-false messageMax (w .total) e) _ refl
 
-  proceed-safe : (h : Header) (p : List ℕ) (s : State) → consistent s (length b) ≡ true → Safe (proceed h p s b) (length b)
-  proceed-safe h p Fresh ok = rw (none-open h p b) ((λ q. apart (cc)), fresh (length b), refl)
-  proceed-safe h p (Open q) ok = by-index (eqb (h .index) (q .next)) refl
-    where
-      by-words : h .index ≡ q .next → (same : Bool) → sameWords (h .words) (q .words) ≡ same → Safe (proceed h p (Open q) b) (length b)
-      by-words i true e =
-          let known = consistent-open q (length b) ok in
-          rw (goes-on h p b q i e) (accept-safe (q .words) (q .next) (q .filled) p b (known .order) (omega (arith, known .less)) (known .bounded) (known .held))
-      by-words i false e = rw (other-words h p b q i e) ((λ z. apart (cc)), fresh (length b), refl)
-
-      by-index : (next : Bool) → eqb (h .index) (q .next) ≡ next → Safe (proceed h p (Open q) b) (length b)
-      by-index true e = by-words (eqb-true (h .index) (q .next) e) _ refl
-      by-index false e = rw (other-index h p b q (eqb-false (h .index) (q .next) e)) ((λ z. apart (cc)), fresh (length b), refl)
-
-pub stays-consistent : StaysConsistent
-stays-consistent us s b f ok = by-header (parsed us f) refl
+proceed-outcome : (h : Header) (p : List ℕ) (s : State) (b : List ℕ) → consistent s (length b) ≡ true → Outcome s b (proceed h p s b)
+proceed-outcome h p Fresh b ok = rw (none-open h p b) (refuses NothingOpen (λ q. apart (cc)))
+proceed-outcome h p (Open q) b ok = by-index (isNext h q) refl
   where
-    by-index : (h : Header) → parsed us f ≡ Parsed.Header h → (zero-index : Bool) → eqb (h .index) 0 ≡ zero-index → Safe (stepOf us s b f) (length b)
-    by-index h q true e = rw (index-zero us s b f ok h q (eqb-true (h .index) 0 e)) (begin-safe b (h .words) (dataOf f))
-    by-index h q false e = rw (index-more us s b f ok h q (eqb-false (h .index) 0 e)) (proceed-safe b h (dataOf f) s ok)
+    by-words : isNext h q ≡ true → (same : Bool) → sameWords (h .words) (q .words) ≡ same → Outcome (Open q) b (proceed h p (Open q) b)
+    by-words i true e =
+        let known = consistent-open q (length b) ok in
+        rw (goes-on h p b q i e)
+        (accept-outcome (Open q) b (q .words) (q .next) (q .filled) p (known .order) (omega (arith, known .less)) (known .bounded) (known .held))
+    by-words i false e = rw (other-words h p b q i e) (refuses OtherWords (λ z. apart (cc)))
 
-    by-header : (p : Parsed) → parsed us f ≡ p → Safe (stepOf us s b f) (length b)
-    by-header (Parsed.Refused reason) q = rw (unread-frame us s b f ok reason q) ((λ z. apart (cc)), ok, refl)
+    by-index : (next : Bool) → isNext h q ≡ next → Outcome (Open q) b (proceed h p (Open q) b)
+    by-index true e = by-words e _ refl
+    by-index false e = rw (other-index h p b q e) (refuses OutOfOrder (λ z. apart (cc)))
+
+outcome : (us : ℕ) (s : State) (b f : List ℕ) → consistent s (length b) ≡ true → Outcome s b (stepOf us s b f)
+outcome us s b f ok = by-header (parsed us f) refl
+  where
+    by-index : (h : Header) → parsed us f ≡ Parsed.Header h → (begins-anew : Bool) → isFirst h ≡ begins-anew → Outcome s b (stepOf us s b f)
+    by-index h q true e = rw (index-zero us s b f ok h q e) (begin-outcome s b (h .words) (dataOf f))
+    by-index h q false e = rw (index-more us s b f ok h q e) (proceed-outcome h (dataOf f) s b ok)
+
+    by-header : (p : Parsed) → parsed us f ≡ p → Outcome s b (stepOf us s b f)
+    by-header (Parsed.Refused reason) q = rw (unread-frame us s b f ok reason q) (refuses (Unread reason) (λ z. apart (cc)))
     by-header (Parsed.Header h) q = by-index h q _ refl
 
-ready-throughout : (us : ℕ) (fs : List (List ℕ)) (s : State) (b : List ℕ) → consistent s (length b) ≡ true → All NotBad (verdicts us s b fs)
-unfolding verdicts
-ready-throughout us [] s b ok = tt
-ready-throughout us (f ∷ fs) s b ok =
-    let after = stays-consistent us s b f ok in
-    (after .0, ready-throughout us fs (stepOf us s b f .answer .state) (stepOf us s b f .buffer) (rw (after .2) (after .1)))
+-- a refusal's state is the state before or fresh
+kept : (reason : Reason) (s : State) (room : ℕ) → consistent s room ≡ true → consistent (stateAfter reason s) room ≡ true
+kept (Unread reason) s room ok = ok
+kept NothingOpen s room ok = fresh room
+kept OutOfOrder s room ok = fresh room
+kept OtherWords s room ok = fresh room
+kept NoData s room ok = fresh room
+kept TooMuchData s room ok = fresh room
+kept MessageLong s room ok = fresh room
+kept BadState s room ok = fresh room
+
+pub stays-consistent : StaysConsistent
+stays-consistent us s b f ok = by (stepOf us s b f) (outcome us s b f ok)
+  where
+    by : (st : Stepped) → Outcome s b st → NotBad (st .answer .verdict) × (consistent (st .answer .state) (length b) ≡ true) × (length (st .buffer) ≡ length b)
+    by st (refuses reason other) = ((λ q. other (cc)), kept reason s (length b) ok, refl)
+    by st (delivers w b′ len) = ((λ q. apart (cc)), fresh (length b), len)
+    by st (wants w i filled b′ len again) = ((λ q. apart (cc)), again, len)
 
 pub never-bad : NeverBad
-never-bad us b fs = ready-throughout us fs Fresh b (fresh (length b))
+unfolding verdicts
+never-bad us s b [] ok = tt
+never-bad us s b (f ∷ fs) ok =
+    let after = stays-consistent us s b f ok in
+    (after .0, never-bad us (stepOf us s b f .answer .state) (stepOf us s b f .buffer) fs (rw (after .2) (after .1)))
 
-one-more : (a : Bool) (xs rest ys zs : List (Option HandedUp)) → a ≡ true → rest ≡ ys ++ zs
-    → xs ++ (cond a (none ∷ []) [] ++ rest) ≡ (xs ++ (none ∷ ys)) ++ zs
-one-more a xs rest ys zs e r = rw (e, r) (sym (append-assoc xs (none ∷ ys) zs))
+-- the numbers of a frame that does not parse
+small : (reason : ReadReason) → Reading.numberOf reason ≤ 4
+small FrameShort = omega arith
+small FrameLong = omega arith
+small WrongType = omega arith
+small OtherReceiver = omega arith
 
--- where every frame arrives, the message is expected at the last one
-at-the-last : (up : Option HandedUp) (s : Sent) (ss : List Sent) → allArrive (s ∷ ss) ≡ true
-    → (before : List (Option HandedUp)) × (expectedFrom up (s ∷ ss) ≡ before ++ (up ∷ []))
-unfolding expectedFrom allArrive
-at-the-last up s [] all = let arrives = both (s .arrives) true all .0 in (nothing (s .before), rw arrives)
-at-the-last up s (t ∷ ss) all =
-    let split = both (s .arrives) (allArrive (t ∷ ss)) all in
-    let rest = at-the-last up t ss (split .1) in
-    (nothing (s .before) ++ (none ∷ rest .0), one-more (s .arrives) (nothing (s .before)) _ (rest .0) (up ∷ []) (split .0) (rest .1))
+column : (reason : Reason) (s : State) → (numberOf reason ≤ 4 → stateAfter reason s ≡ s) × (5 ≤ numberOf reason → stateAfter reason s ≡ Fresh)
+column (Unread reason) s = ((λ h. refl), (λ h. absurd (omega (arith, small reason))))
+column NothingOpen s = ((λ h. absurd (omega arith)), (λ h. refl))
+column OutOfOrder s = ((λ h. absurd (omega arith)), (λ h. refl))
+column OtherWords s = ((λ h. absurd (omega arith)), (λ h. refl))
+column NoData s = ((λ h. absurd (omega arith)), (λ h. refl))
+column TooMuchData s = ((λ h. absurd (omega arith)), (λ h. refl))
+column MessageLong s = ((λ h. absurd (omega arith)), (λ h. refl))
+column BadState s = ((λ h. absurd (omega arith)), (λ h. refl))
 
-legal-at : (us room : ℕ) (earlier : List Transmission) (t : Transmission) (later : List Transmission) → All (Legal us room) (earlier ++ (t ∷ later)) → Legal us room t
-legal-at us room [] t later all = all .0
-legal-at us room (e ∷ es) t later all = legal-at us room es t later (all .1)
-
-expected-at : (earlier : List Transmission) (t : Transmission) (later : List Transmission) (after : List (List ℕ)) → FirstArrives (t .frames) → allArrive (t .frames) ≡ true
-    → (before : List (Option HandedUp)) × (behind : List (Option HandedUp)) × (expectedOf (earlier ++ (t ∷ later)) after ≡ before ++ (some (asSent (t .message)) ∷ behind))
-unfolding expectedOf
-expected-at [] t later after spared all = split (t .frames) spared all
+pub refusal-leaves : RefusalLeaves
+refusal-leaves us s b f reason q = by-state (consistent s (length b)) refl
   where
-    split : (ss : List Sent) → FirstArrives ss → allArrive ss ≡ true
-        → (before : List (Option HandedUp)) × (behind : List (Option HandedUp))
-        × (expectedFrom (cond (allArrive ss) (some (asSent (t .message))) none) ss ++ expectedOf later after ≡ before ++ (some (asSent (t .message)) ∷ behind))
-    split [] spared all = absurd spared
-    split (s ∷ ss) spared all =
-        let last = at-the-last (some (asSent (t .message))) s ss all in
-        (last .0, expectedOf later after, rw (all, last .1) (append-assoc (last .0) (some (asSent (t .message)) ∷ []) (expectedOf later after)))
-expected-at (e ∷ es) t later after spared all =
-    let rest = expected-at es t later after spared all in
-    (expectedFrom (gives e) (e .frames) ++ rest .0, rest .1, rw (rest .2) (sym (append-assoc (expectedFrom (gives e) (e .frames)) (rest .0) (some (asSent (t .message)) ∷ rest .1))))
+    Leaves : Stepped → Type 0
+    Leaves st = (numberOf reason ≤ 4 → st .answer .state ≡ s) × (5 ≤ numberOf reason → st .answer .state ≡ Fresh) × (st .buffer ≡ b)
+
+    by : (st : Stepped) → Outcome s b st → st .answer .verdict ≡ Refused reason → Leaves st
+    by st (refuses r other) q = let same : r ≡ reason = cc in rw (← same) (column r s .0, column r s .1, refl)
+    by st (delivers w b′ len) q = apart (cc)
+    by st (wants w i filled b′ len again) q = apart (cc)
+
+    by-state : (ok : Bool) → consistent s (length b) ≡ ok → Leaves (stepOf us s b f)
+    by-state true e = by (stepOf us s b f) (outcome us s b f e) q
+    by-state false e =
+        let bad = bad-state us s b f e in
+        let answered : _≡_ {A = Verdict} (Refused BadState) (Refused reason) = rw bad at q in
+        let same : BadState ≡ reason = cc in
+        rw (bad, ← same) (column BadState s .0, column BadState s .1, refl)
+
+-- after any frames at all
+after-any : (us room : ℕ) (us-fits : us < 2 ^ 32) (rest : List (List ℕ)) (E : List (Option HandedUp)) → Continues us room us-fits rest E
+    → (fs : List (List ℕ)) (s : State) (b : List ℕ) → Ready us room us-fits s b → run us s b (fs ++ rest) ≡ run us s b fs ++ E
+unfolding run
+after-any us room us-fits rest E continues [] s b r = continues s b r
+after-any us room us-fits rest E continues (f ∷ fs) s b r =
+    let after = stays-consistent us s b f (rw (r .0) (r .1)) in
+    let r′ : Ready us room us-fits (stepOf us s b f .answer .state) (stepOf us s b f .buffer) = (after .2 ∙ r .0, rw (← r .0) (after .1)) in
+    ap (λ (l : List (Option HandedUp)). handedUp (stepOf us s b f .answer .verdict) (stepOf us s b f .buffer) ∷ l)
+    (after-any us room us-fits rest E continues fs (stepOf us s b f .answer .state) (stepOf us s b f .buffer) r′)
 
 pub never-in-vain : NeverInVain
-never-in-vain us b earlier t later put-in us-fits legal all =
-    let found = expected-at earlier t later put-in (legal-at us (length b) earlier t later (legal .all) .spared) all in
-    (found .0, found .1, demand-3 us b (record { sent = earlier ++ (t ∷ later); after = put-in }) us-fits legal ∙ found .2)
+never-in-vain us b earlier t us-fits legal =
+    after-any us (length b) us-fits (calls us t) (expected t) (all-messages us (length b) us-fits (t .sent) (legal .all) (t .after) (legal .put-in))
+    earlier Fresh b (refl, fresh (length b))
 
 -- frames that all arrive, with nothing put in
 abbrev sentAll : List (List ℕ) → List Sent
@@ -204,7 +243,7 @@ hands up ps count len q =
     rw (q .2, fewer) (expected-sent up (q .0) (q .1))
 
 -- the writer's frames as a transmission in which nothing is lost
-module _ (us room : ℕ) (p : Posting) (l : LegalPosting room p) where
+module _ (us room : ℕ) (p : Outgoing) (l : LegalOutgoing room p) where
   framed : Framing (envelopeFor us (p .message)) (p .message .bytes) (framesOf us p)
   framed = writes-a-framing (envelopeFor us (p .message)) (p .message .bytes) (p .size) (p .count) (l .counts)
 
@@ -223,7 +262,7 @@ module _ (us room : ℕ) (p : Posting) (l : LegalPosting room p) where
         bounded = framed .bounded;
         fits = l .fits;
         cut = rw (pieces-sent (framed .pieces)) (framed .cut);
-        spared = rw (starts .2) refl;
+        first-arrives = rw (starts .2) refl;
         put-in = nothing-put-in us (framed .pieces);
       }
 
@@ -238,21 +277,21 @@ module _ (us room : ℕ) (p : Posting) (l : LegalPosting room p) where
       rw (all-sent (framed .pieces)) (hands (some (asSent (p .message))) (framed .pieces) (p .count) many starts)
 
 module _ (us room : ℕ) where
-  transmissions : (ps : List Posting) → All (LegalPosting room) ps → List Transmission
+  transmissions : (ps : List Outgoing) → All (LegalOutgoing room) ps → List Transmission
   transmissions [] ls = []
   transmissions (p ∷ ps) ls = transmission us room p (ls .0) ∷ transmissions ps (ls .1)
 
-  all-transmitted : (ps : List Posting) (ls : All (LegalPosting room) ps) → All (Legal us room) (transmissions ps ls)
+  all-transmitted : (ps : List Outgoing) (ls : All (LegalOutgoing room) ps) → All (Legal us room) (transmissions ps ls)
   unfolding transmissions
   all-transmitted [] ls = tt
   all-transmitted (p ∷ ps) ls = (transmitted us room p (ls .0), all-transmitted ps (ls .1))
 
-  all-called : (ps : List Posting) (ls : All (LegalPosting room) ps) → callsOf us (transmissions ps ls) [] ≡ flatten (map (framesOf us) ps)
+  all-called : (ps : List Outgoing) (ls : All (LegalOutgoing room) ps) → callsOf us (transmissions ps ls) [] ≡ flatten (map (framesOf us) ps)
   unfolding transmissions callsOf flatten
   all-called [] ls = refl
   all-called (p ∷ ps) ls = ap₂ _++_ (called us room p (ls .0)) (all-called ps (ls .1))
 
-  all-given-up : (ps : List Posting) (ls : All (LegalPosting room) ps) → expectedOf (transmissions ps ls) [] ≡ flatten (map handsUp ps)
+  all-given-up : (ps : List Outgoing) (ls : All (LegalOutgoing room) ps) → expectedOf (transmissions ps ls) [] ≡ flatten (map handsUp ps)
   unfolding transmissions expectedOf flatten
   all-given-up [] ls = refl
   all-given-up (p ∷ ps) ls = ap₂ _++_ (given-up us room p (ls .0)) (all-given-up ps (ls .1))

@@ -7,26 +7,27 @@
 --     demand-3     the whole traffic
 -- What follows a message enters as a continuation: from any state that is fresh or consistent, and any buffer of that length, it hands up E.
 -- Assumes nothing.
-use Prim.Native.Nat.{ℕ, zero, suc, _+_, _^_, _≤_, _<_}
+use Prim.Native.Nat.{ℕ, suc, _+_, _^_, _≤_, _<_}
 use mathlib.Core.Bool.{Bool, true, false, cond, _&&_}
-use mathlib.Core.Path.{_≡_, refl, sym, ap, _∙_}
+use mathlib.Core.Path.{_≡_, refl, ap, _∙_}
 use mathlib.Core.List.{List, [], _∷_, _++_, map, flatten, append-assoc, append-nil}
 use mathlib.Core.Option.{Option, none, some}
 use native.Mathlib.Nat.{pos-of-ne-zero}
 use native.Mathlib.Omega.{arith}
-use borrow.Author.Tests.{eq-eqb, ne-eqb, le-leb, lt-ltb}
-use lib.ListN.{length, take, drop, length-append, length-take}
+use borrow.Author.Tests.{eq-eqb, ne-eqb, le-leb}
+use lib.ListN.{length, take, length-append, length-take}
 use Rattle.frame.specs.Layout.{pieceMax, messageMax, headerFor, frameOf}
 use Rattle.frame.specs.Framing.{All, Piece, Cut}
 use Rattle.frame.specs.Statements.{Fits}
 use Rattle.frame.specs.declared.Envelope.{Envelope}
 use Rattle.frame.specs.declared.Words.{Words}
-use Rattle.reassembly.specs.Step.{Stepped, consistent, refused, landed, taken, accept, proceed, stepOf}
+use Rattle.reassembly.specs.Step.{Stepped, consistent, waiting, landed, accept, stepOf}
 use Rattle.reassembly.specs.Run.{HandedUp, handedUp, run}
-use Rattle.reassembly.specs.Traffic.{Message, Sent, Transmission, Traffic, PutIn, FirstArrives, Legal, LegalTraffic, envelopeFor, callsFrom, callsOf, allArrive, asSent, nothing, ifLast, expectedFrom, gives, expectedOf}
+use Rattle.reassembly.specs.Traffic.{Message, Sent, Transmission, PutIn, FirstArrives, Legal, envelopeFor, callsFrom, callsOf, allArrive, asSent, nothing, ifLast, expectedFrom, expectedOf}
 use Rattle.reassembly.specs.Statements.{Demand3}
 use Rattle.reassembly.specs.declared.State.{State}
 use Rattle.reassembly.specs.declared.State.the-variants.{Fresh, Open}
+use Rattle.reassembly.proofs.Answers.{fresh, by-room}
 use Rattle.reassembly.proofs.Steps.{put-in, first, later, in-order, Behind, out-of-order, fitting, length-landed, start-landed}
 
 -- the pieces of frames
@@ -59,10 +60,10 @@ further i (Open p) behind = omega arith
 
 module _ (us room : ℕ) (us-fits : us < 2 ^ 32) where
   -- a state that is fresh or consistent, over a buffer of that length
-  abbrev Ready : State → List ℕ → Type 0
+  abbrev pub Ready : State → List ℕ → Type 0
   Ready s b = (length b ≡ room) × (consistent s room ≡ true)
 
-  abbrev Continues : List (List ℕ) → List (Option HandedUp) → Type 0
+  abbrev pub Continues : List (List ℕ) → List (Option HandedUp) → Type 0
   Continues rest E = (s : State) (b : List ℕ) → Ready s b → run us s b rest ≡ E
 
   ready : (s : State) (b : List ℕ) → Ready s b → consistent s (length b) ≡ true
@@ -75,8 +76,7 @@ module _ (us room : ℕ) (us-fits : us < 2 ^ 32) where
       run-step us s b j (js ++ rest) _ (unread .1) ∙ ap (λ (l : List (Option HandedUp)). none ∷ l) (put-ins js (h .1) s b r rest)
 
   fresh-ready : (b : List ℕ) → length b ≡ room → Ready Fresh b
-  unfolding consistent
-  fresh-ready b e = (e, refl)
+  fresh-ready b e = (e, fresh room)
 
   module _ (m : Message) (fits : Fits (envelopeFor us m)) (bounded : length (m .bytes) ≤ messageMax) (held : length (m .bytes) ≤ room)
       (rest : List (List ℕ)) (E : List (Option HandedUp)) (continues : Continues rest E) where
@@ -134,31 +134,26 @@ module _ (us room : ℕ) (us-fits : us < 2 ^ 32) where
     abbrev up : List Sent → Option HandedUp
     up ss = cond (allArrive ss) (some (asSent m)) none
 
-    -- open, and waiting for Index i
-    abbrev waiting : ℕ → ℕ → State
-    waiting i filled = Open (record { words = words; next = i; filled = filled })
-
-    waiting-ready : (i filled : ℕ) (b : List ℕ) → length b ≡ room → 1 ≤ i → i ≤ filled → filled < total → Ready (waiting i filled) b
-    unfolding consistent
+    waiting-ready : (i filled : ℕ) (b : List ℕ) → length b ≡ room → 1 ≤ i → i ≤ filled → filled < total → Ready (waiting words i filled) b
     waiting-ready i filled b len positive order less =
-        (len, rw (le-leb 1 i positive, le-leb i filled order, lt-ltb filled total less, le-leb total messageMax bounded, le-leb total room held))
+        (len, by-room (record { words = words; next = i; filled = filled }) room positive order less bounded ∙ le-leb total room held)
 
     -- the frame waited for comes, and what is left is as on track; or it is lost
-    next-frame : (s : Sent) (ss : List Sent) (i filled : ℕ) (b : List ℕ) → Ready (waiting (suc i) filled) b
+    next-frame : (s : Sent) (ss : List Sent) (i filled : ℕ) (b : List ℕ) → Ready (waiting words (suc i) filled) b
         → suc i + length (flatten (pieces (s ∷ ss))) ≤ messageMax
         → All Piece (pieces (s ∷ ss))
         → All (λ s. All (PutIn us) (s .before)) (s ∷ ss)
         → after us (accept words (suc i) filled (s .piece) b) (from (suc (suc i)) ss) ≡ ifLast ss (up ss) ∷ give (up ss) ss
         → (a : Bool)
-        → run us (waiting (suc i) filled) b (arrived a (frameOf (headerFor e total (suc i)) (s .piece)) ++ from (suc (suc i)) ss)
+        → run us (waiting words (suc i) filled) b (arrived a (frameOf (headerFor e total (suc i)) (s .piece)) ++ from (suc (suc i)) ss)
         ≡ cond a (ifLast ss (cond (a && allArrive ss) (some (asSent m)) none) ∷ []) [] ++ give (cond (a && allArrive ss) (some (asSent m)) none) ss
     next-frame s ss i filled b r short ps js then true =
         let h = headerFor e total (suc i) in
-        let st = waiting (suc i) filled in
+        let st = waiting words (suc i) filled in
         let stepped = later us st b (ready st b r) e fits refl total bounded (s .piece) (ps .0 .1) i (omega (arith, long s ss)) in
         run-step us st b (frameOf h (s .piece)) _ _ (stepped ∙ in-order h (s .piece) b filled) ∙ then
     next-frame s ss i filled b r short ps js then false =
-        lost ss (suc i) (omega (arith, long s ss, ps .0 .0)) (ps .1) (js .1) (waiting (suc i) filled) b r (omega arith)
+        lost ss (suc i) (omega (arith, long s ss, ps .0 .0)) (ps .1) (js .1) (waiting words (suc i) filled) b r (omega arith)
 
     -- on track: the data p of the frame with Index i is to be accepted
     accepted : (ss : List Sent) (i filled : ℕ) (p b : List ℕ)
@@ -194,7 +189,7 @@ module _ (us room : ℕ) (us-fits : us < 2 ^ 32) where
         let then = accepted ss (suc i) filled′ (s .piece) b′ len′ (omega arith) (omega arith) (λ z. absurd (omega arith)) joins′ (ps .1) (js .1) in
         rw (fitting words i filled p b (omega arith) some-data, ne-eqb filled′ total (λ z. omega arith))
         (ap (λ (l : List (Option HandedUp)). none ∷ l)
-        (frame-then (up (s ∷ ss)) (suc i) s ss (js .0) (waiting (suc i) filled′) b′ r′
+        (frame-then (up (s ∷ ss)) (suc i) s ss (js .0) (waiting words (suc i) filled′) b′ r′
         (next-frame s ss i filled′ b′ r′ (omega arith) ps js then (s .arrives))))
 
     -- the facts of a message's cut that its first frame needs
@@ -221,15 +216,14 @@ module _ (us room : ℕ) (us-fits : us < 2 ^ 32) where
         (rw spared (run-step us st b (frameOf (headerFor e total 0) (s .piece)) _ _ stepped ∙ then))
 
   -- the whole traffic
-  all-messages : (ts : List Transmission) → All (Legal us room) ts → (js : List (List ℕ)) → All (PutIn us) js → Continues (callsOf us ts js) (expectedOf ts js)
+  pub all-messages : (ts : List Transmission) → All (Legal us room) ts → (js : List (List ℕ)) → All (PutIn us) js → Continues (callsOf us ts js) (expectedOf ts js)
   unfolding callsOf expectedOf run
   all-messages [] legal js h st b r = simp append-nil at (put-ins js h st b r [])
   all-messages (t ∷ ts) legal js h st b r =
       let l = legal .0 in
       let fits : Fits (envelopeFor us (t .message)) = record { id = l .id; sender = l .sender; status = l .status; receiver = us-fits } in
       one-message (t .message) fits (l .bounded) (l .fits) (callsOf us ts js) (expectedOf ts js) (all-messages ts (legal .1) js h)
-      (t .frames) (l .cut) (l .spared) (l .put-in) st b r
+      (t .frames) (l .cut) (l .first-arrives) (l .put-in) st b r
 
 pub demand-3 : Demand3
-unfolding consistent
-demand-3 us buffer t us-fits legal = all-messages us (length buffer) us-fits (t .sent) (legal .all) (t .after) (legal .put-in) Fresh buffer (refl, refl)
+demand-3 us buffer t us-fits legal = all-messages us (length buffer) us-fits (t .sent) (legal .all) (t .after) (legal .put-in) Fresh buffer (refl, fresh (length buffer))

@@ -8,13 +8,6 @@ use Rattle.frame.specs.declared.read.Parsed.the-variants as Parsed
 use Rattle.frame.specs.declared.read.Reason.the-variants.{FrameShort}
 use Rattle.reassembly.specs.declared.Reason.{Reason}
 use Rattle.reassembly.specs.declared.Reason.the-variants.{Unread}
-use Rattle.reassembly.specs.declared.State.the-variants.{Fresh}
-use Rattle.reassembly.specs.declared.Verdict.the-variants.{Refused}
-use Rattle.reassembly.specs.declared.Answer.{Answer}
-
--- the answer of a refusal that leaves nothing open
-abbrev pub dropping : Reason → Answer
-dropping reason = record { verdict = Refused reason; state = Fresh }
 
 -- 8's condition on numbers
 abbrev pub lacksData : ℕ → ℕ → Bool

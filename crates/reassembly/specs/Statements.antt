@@ -1,6 +1,6 @@
 -- What is proved of whole runs. The proofs are in `proofs/Theorem.antt` and `proofs/Corollaries.antt`, under the names given here.
 -- Assumes nothing.
-use Prim.Native.Nat.{ℕ, suc, _-_, _^_, _≤_, _<_}
+use Prim.Native.Nat.{ℕ, _-_, _^_, _≤_, _<_}
 use mathlib.Core.Bool.{true}
 use mathlib.Core.Path.{_≡_}
 use mathlib.Core.List.{List, [], _∷_, _++_, map, flatten}
@@ -10,17 +10,30 @@ use Rattle.frame.specs.Framing.{All}
 use Rattle.frame.specs.Statements.{countUp}
 use Rattle.frame.specs.Writing.{counted, frameAt}
 use Rattle.frame.specs.declared.write.Counted.the-variants.{Frames}
-use Rattle.reassembly.specs.Step.{consistent, stepOf}
+use Rattle.reassembly.specs.Step.{numberOf, consistent, stepOf}
 use Rattle.reassembly.specs.Run.{HandedUp, run, verdicts}
-use Rattle.reassembly.specs.Traffic.{Message, Transmission, Traffic, LegalTraffic, envelopeFor, calls, allArrive, asSent, expected}
+use Rattle.reassembly.specs.Traffic.{Message, Traffic, LegalTraffic, envelopeFor, calls, asSent, expected}
 use Rattle.reassembly.specs.declared.State.{State}
 use Rattle.reassembly.specs.declared.State.the-variants.{Fresh}
+use Rattle.reassembly.specs.declared.Reason.{Reason}
 use Rattle.reassembly.specs.declared.Reason.the-variants.{BadState}
 use Rattle.reassembly.specs.declared.Verdict.{Verdict}
 use Rattle.reassembly.specs.declared.Verdict.the-variants.{Refused}
 
--- `demand-3`. "Start fresh, with one lent buffer": whatever it holds and however long it is, for every receiver and every traffic, what each call
--- hands up is what is to be handed up with that call. Both lists have one entry a call, refused ones included.
+-- `demand-3`. What each part renders of the mission's third demand:
+--     Fresh                   "Start fresh,"
+--     buffer                  "with one lent buffer", of any length and with any bytes in it; "that nobody else writes": `run` hands it on
+--     us                      "messages for us": our Receiver ID, always the same
+--     traffic .sent           "any list of messages .. sent one after another"
+--     bounded, fits           "each of at most 4,096 bytes and no longer than that buffer"
+--     cut                     "framed by the rules": any cut in pieces that document 01 allows
+--     arrives, first-arrives  "Take out any frames except those with Index 0,"
+--     before, after           "and put in, anywhere, frames refused under numbers 1 to 4."
+--     run over calls          "Give the frames that now stand there to the reassembly, one call a frame, each call with the state and the buffer as the
+--                             last one left them." `stepOf` is what `reassembly::step` is proved to answer and to leave
+--     ≡ expected              "Then, for every such list of calls, refused ones included, what is handed up is exactly the messages that lost no frame, each
+--                             once, in order, with bytes and carried words as sent.": both lists have one entry a call
+-- That `us` and the messages' words are of 32 bits is what each `u32` is.
 abbrev pub Demand3 : Type 0
 Demand3 =
     (us : ℕ) (buffer : List ℕ) (traffic : Traffic)
@@ -28,24 +41,22 @@ Demand3 =
     → LegalTraffic us (length buffer) traffic
     → run us Fresh buffer (calls us traffic) ≡ expected traffic
 
--- `never-in-vain`. Whatever came before it and comes after it, a message of which every frame arrives is handed up: no message is waited for in vain.
+-- `never-in-vain`. The same after any frames at all, be they whole messages, parts of some or garbage: what comes then is handed up as if it had come
+-- first. So no message is waited for in vain, and none that comes whole is lost.
 abbrev pub NeverInVain : Type 0
 NeverInVain =
-    (us : ℕ) (buffer : List ℕ) (earlier : List Transmission) (t : Transmission) (later : List Transmission) (put-in : List (List ℕ))
+    (us : ℕ) (buffer : List ℕ) (earlier : List (List ℕ)) (traffic : Traffic)
     → us < 2 ^ 32
-    → LegalTraffic us (length buffer) (record { sent = earlier ++ (t ∷ later); after = put-in })
-    → allArrive (t .frames) ≡ true
-    → (before : List (Option HandedUp))
-    × (behind : List (Option HandedUp))
-    × (run us Fresh buffer (calls us (record { sent = earlier ++ (t ∷ later); after = put-in })) ≡ before ++ (some (asSent (t .message)) ∷ behind))
+    → LegalTraffic us (length buffer) traffic
+    → run us Fresh buffer (earlier ++ calls us traffic) ≡ run us Fresh buffer earlier ++ expected traffic
 
 -- a message that the writer is to write, in pieces of a size, and the count that is answered for it
-pub record Posting : Type 0 where
+pub record Outgoing : Type 0 where
   pub message : Message
   pub size : ℕ
   pub count : ℕ
 
-pub record LegalPosting (room : ℕ) (p : Posting) : Type 0 where
+pub record LegalOutgoing (room : ℕ) (p : Outgoing) : Type 0 where
   pub id : p .message .id < 2 ^ 32
   pub sender : p .message .sender < 2 ^ 32
   pub status : p .message .status < 2 ^ 32
@@ -53,19 +64,20 @@ pub record LegalPosting (room : ℕ) (p : Posting) : Type 0 where
   pub counts : counted (length (p .message .bytes)) (p .size) ≡ Frames (p .count)
 
 -- what the writer writes for it, and what is handed up for it: nothing before the last frame, then the message
-abbrev pub framesOf : ℕ → Posting → List (List ℕ)
+abbrev pub framesOf : ℕ → Outgoing → List (List ℕ)
 framesOf us p = map (frameAt (envelopeFor us (p .message)) (p .message .bytes) (p .size)) (countUp 0 (p .count))
 
-abbrev pub handsUp : Posting → List (Option HandedUp)
+abbrev pub handsUp : Outgoing → List (Option HandedUp)
 handsUp p = replicate (p .count - 1) none ++ (some (asSent (p .message)) ∷ [])
 
--- `written-is-handed-up`. What the writer writes for any list of messages, in pieces of any sizes, is handed up message by message.
+-- `written-is-handed-up`. What the writer writes for any list of messages, in pieces of any sizes, is handed up message by message. (That `frameAt` is what
+-- the writer writes below the count is `writes-each` and `reads-back` of `frame`.)
 abbrev pub WrittenIsHandedUp : Type 0
 WrittenIsHandedUp =
-    (us : ℕ) (buffer : List ℕ) (postings : List Posting)
+    (us : ℕ) (buffer : List ℕ) (outgoing : List Outgoing)
     → us < 2 ^ 32
-    → All (LegalPosting (length buffer)) postings
-    → run us Fresh buffer (flatten (map (framesOf us) postings)) ≡ flatten (map handsUp postings)
+    → All (LegalOutgoing (length buffer)) outgoing
+    → run us Fresh buffer (flatten (map (framesOf us) outgoing)) ≡ flatten (map handsUp outgoing)
 
 -- not 11
 abbrev pub NotBad : Verdict → Type 0
@@ -81,6 +93,18 @@ StaysConsistent =
     × (consistent (stepOf us state buffer frame .answer .state) (length buffer) ≡ true)
     × (length (stepOf us state buffer frame .buffer) ≡ length buffer)
 
--- `never-bad`. So a run that starts fresh never sees 11, whatever the frames.
+-- `never-bad`. So a run from such a state, above all one that starts fresh, never sees 11, whatever the frames.
 abbrev pub NeverBad : Type 0
-NeverBad = (us : ℕ) (buffer : List ℕ) (frames : List (List ℕ)) → All NotBad (verdicts us Fresh buffer frames)
+NeverBad =
+    (us : ℕ) (state : State) (buffer : List ℕ) (frames : List (List ℕ))
+    → consistent state (length buffer) ≡ true
+    → All NotBad (verdicts us state buffer frames)
+
+-- `refusal-leaves`. The table's last column, and "No refusal changes the buffer.": after 1 to 4 the state is as before, after any other refusal it is fresh.
+abbrev pub RefusalLeaves : Type 0
+RefusalLeaves =
+    (us : ℕ) (state : State) (buffer frame : List ℕ) (reason : Reason)
+    → stepOf us state buffer frame .answer .verdict ≡ Refused reason
+    → (numberOf reason ≤ 4 → stepOf us state buffer frame .answer .state ≡ state)
+    × (5 ≤ numberOf reason → stepOf us state buffer frame .answer .state ≡ Fresh)
+    × (stepOf us state buffer frame .buffer ≡ buffer)

@@ -12,6 +12,7 @@ use Rattle.frame.specs.declared.Header.{Header}
 use Rattle.frame.specs.declared.Words.{Words}
 use Rattle.frame.specs.declared.read.Parsed.{Parsed}
 use Rattle.frame.specs.declared.read.Parsed.the-variants as Parsed
+use Rattle.reassembly.specs.declared.Progress.{Progress}
 use Rattle.reassembly.specs.declared.State.{State}
 use Rattle.reassembly.specs.declared.State.the-variants.{Fresh, Open}
 use Rattle.reassembly.specs.declared.Reason.{Reason}
@@ -19,6 +20,7 @@ use Rattle.reassembly.specs.declared.Reason.the-variants.{Unread, Nothin
 use Rattle.reassembly.specs.declared.Verdict.the-variants.{More, Delivered, Refused}
 use Rattle.reassembly.specs.declared.Answer.{Answer}
 
+-- the table's numbers
 abbrev pub numberOf : Reason → ℕ
 numberOf (Unread reason) = Reading.numberOf reason
 numberOf NothingOpen = 5
@@ -49,26 +51,45 @@ pub record Stepped : Type 0 where
   pub answer : Answer
   pub buffer : List ℕ
 
+-- the table's column "state after"
+abbrev pub stateAfter : Reason → State → State
+stateAfter (Unread reason) before = before
+stateAfter NothingOpen before = Fresh
+stateAfter OutOfOrder before = Fresh
+stateAfter OtherWords before = Fresh
+stateAfter NoData before = Fresh
+stateAfter TooMuchData before = Fresh
+stateAfter MessageLong before = Fresh
+stateAfter BadState before = Fresh
+
+abbrev pub refusal : Reason → State → Answer
+refusal reason before = record { verdict = Refused reason; state = stateAfter reason before }
+
 -- "No refusal changes the buffer."
 abbrev pub refused : Reason → State → List ℕ → Stepped
-refused reason state buffer = record { answer = record { verdict = Refused reason; state = state }; buffer = buffer }
+refused reason before buffer = record { answer = refusal reason before; buffer = buffer }
 
 -- "Accepted data lands in the lent buffer from the first unfilled byte on, and no other byte changes."
 abbrev pub landed : ℕ → List ℕ → List ℕ → List ℕ
 landed filled piece buffer = take filled buffer ++ (piece ++ drop (filled + length piece) buffer)
 
--- "When filled reaches total, the message is the first total bytes, and the state is fresh." Until then more is wanted
-abbrev pub taken : Words → ℕ → ℕ → List ℕ → Stepped
-taken words index filled buffer =
-    record {
-      answer =
-          cond (eqb filled (words .total))
-          (record { verdict = Delivered words (words .total); state = Fresh })
-          (record { verdict = More; state = Open (record { words = words; next = suc index; filled = filled }) });
-      buffer = buffer;
-    }
+-- open, with these words, the Index that comes next and so many bytes filled
+abbrev pub waiting : Words → ℕ → ℕ → State
+waiting words next filled = Open (record { words = words; next = next; filled = filled })
 
--- a frame of the message that is open, the one with this Index: 8, 9
+-- "the message is the first total bytes, and the state is fresh"
+abbrev pub delivered : Words → List ℕ → Stepped
+delivered words buffer = record { answer = record { verdict = Delivered words (words .total); state = Fresh }; buffer = buffer }
+
+-- more is wanted: the Index after this one
+abbrev pub wanting : Words → ℕ → ℕ → List ℕ → Stepped
+wanting words index filled buffer = record { answer = record { verdict = More; state = waiting words (suc index) filled }; buffer = buffer }
+
+-- "When filled reaches total"
+abbrev pub taken : Words → ℕ → ℕ → List ℕ → Stepped
+taken words index filled buffer = cond (eqb filled (words .total)) (delivered words buffer) (wanting words index filled buffer)
+
+-- the data of the frame with this Index, where so many bytes are filled: 8, 9. Where they are given, nothing is open any more
 unfoldable pub accept : Words → ℕ → ℕ → List ℕ → List ℕ → Stepped
 accept words index filled piece buffer =
     cond (eqb (length piece) 0 && not (eqb (words .total) 0)) (refused NoData Fresh buffer)
@@ -81,21 +102,28 @@ begin words piece buffer =
     cond (ltb messageMax (words .total) || ltb (length buffer) (words .total)) (refused MessageLong Fresh buffer)
     (accept words 0 0 piece buffer)
 
+-- the Index is the one that comes next
+abbrev pub isNext : Header → Progress → Bool
+isNext h p = eqb (h .index) (p .next)
+
 -- any other Index: 5, 6, 7, then as above
 unfoldable pub proceed : Header → List ℕ → State → List ℕ → Stepped
 proceed h piece Fresh buffer = refused NothingOpen Fresh buffer
 proceed h piece (Open p) buffer =
-    cond (not (eqb (h .index) (p .next))) (refused OutOfOrder Fresh buffer)
-    (cond (not (sameWords (h .words) (p .words))) (refused OtherWords Fresh buffer)
+    cond (not (isNext h p)) (refused OutOfOrder (Open p) buffer)
+    (cond (not (sameWords (h .words) (p .words))) (refused OtherWords (Open p) buffer)
     (accept (p .words) (p .next) (p .filled) piece buffer))
 
--- 1 to 4, which leave the state as before; then by the Index
+abbrev pub isFirst : Header → Bool
+isFirst h = eqb (h .index) 0
+
+-- 1 to 4, then by the Index
 unfoldable pub received : Parsed → List ℕ → State → List ℕ → Stepped
 received (Parsed.Refused reason) piece state buffer = refused (Unread reason) state buffer
-received (Parsed.Header h) piece state buffer = cond (eqb (h .index) 0) (begin (h .words) piece buffer) (proceed h piece state buffer)
+received (Parsed.Header h) piece state buffer = cond (isFirst h) (begin (h .words) piece buffer) (proceed h piece state buffer)
 
 -- one call, with our Receiver ID, the state and the buffer as they are handed in, and the frame: 11 first
 unfoldable pub stepOf : ℕ → State → List ℕ → List ℕ → Stepped
 stepOf us state buffer frame =
-    cond (not (consistent state (length buffer))) (refused BadState Fresh buffer)
+    cond (not (consistent state (length buffer))) (refused BadState state buffer)
     (received (parsed us frame) (dataOf frame) state buffer)

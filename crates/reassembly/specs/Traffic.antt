@@ -59,14 +59,13 @@ pub record Legal (us room : ℕ) (t : Transmission) : Type 0 where
   pub bounded : length (t .message .bytes) ≤ messageMax
   pub fits : length (t .message .bytes) ≤ room
   pub cut : Cut (t .message .bytes) (map (λ s. s .piece) (t .frames))
-  pub spared : FirstArrives (t .frames)
+  pub first-arrives : FirstArrives (t .frames)
   pub put-in : All (λ s. All (PutIn us) (s .before)) (t .frames)
 
 pub record LegalTraffic (us room : ℕ) (t : Traffic) : Type 0 where
   pub all : All (Legal us room) (t .sent)
   pub put-in : All (PutIn us) (t .after)
 
--- the frames that now stand there
 abbrev pub envelopeFor : ℕ → Message → Envelope
 envelopeFor us m = record { id = m .id; sender = m .sender; status = m .status; receiver = us }
 
@@ -81,11 +80,10 @@ unfoldable pub callsOf : ℕ → List Transmission → List (List ℕ) → List 
 callsOf us [] after = after
 callsOf us (t ∷ ts) after = callsFrom (envelopeFor us (t .message)) (length (t .message .bytes)) 0 (t .frames) ++ callsOf us ts after
 
+-- "the frames that now stand there"
 abbrev pub calls : ℕ → Traffic → List (List ℕ)
 calls us t = callsOf us (t .sent) (t .after)
 
--- what is to be handed up, call by call: "exactly the messages that lost no frame, each once, in order, with bytes and carried words as sent", each
--- "with the call that gets its last frame", and nothing else
 unfoldable pub allArrive : List Sent → Bool
 allArrive [] = true
 allArrive (s ∷ ss) = s .arrives && allArrive ss
@@ -118,5 +116,7 @@ unfoldable pub expectedOf : List Transmission → List (List ℕ) → List (Opti
 expectedOf [] after = nothing after
 expectedOf (t ∷ ts) after = expectedFrom (gives t) (t .frames) ++ expectedOf ts after
 
+-- what is to be handed up, call by call: "exactly the messages that lost no frame, each once, in order, with bytes and carried words as sent", each
+-- "with the call that gets its last frame", and nothing else
 abbrev pub expected : Traffic → List (Option HandedUp)
 expected t = expectedOf (t .sent) (t .after)

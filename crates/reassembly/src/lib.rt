@@ -8,8 +8,8 @@ ghost use mathlib.Core.Bool.{true};
 ghost use Prim.Native.Nat.{_≤_, _<_};
 ghost use lib.ListN.{length};
 ghost use Rattle.frame.specs.Layout.{messageMax};
-ghost use Rattle.reassembly.specs.Step.{consistent, sameWords, numberOf, accept, begin, proceed, stepOf};
-ghost use Rattle.reassembly.specs.Helpers.{dropping, lacksData, unreadOf};
+ghost use Rattle.reassembly.specs.Step.{numberOf, consistent, sameWords, stateAfter, refusal, waiting, accept, begin, proceed, stepOf};
+ghost use Rattle.reassembly.specs.Helpers.{lacksData, unreadOf};
 
 // A message that is open: its carried words, the Index that comes next, and how many of its bytes stand
 // in the buffer.
@@ -68,14 +68,41 @@ impl Reason {
     }
 }
 
-// A refusal that leaves nothing open.
-fn refuse(reason: Reason) -> Answer
-    ensures { λ r. ⌜ r ≡ dropping reason ⌝ }
+// The state after a refusal: a frame that does not parse changes nothing, any other refusal drops what is
+// open.
+fn state_after(reason: Reason, before: State) -> State
+    ensures { λ r. ⌜ r ≡ stateAfter reason before ⌝ }
+{
+    match reason {
+        Reason::Unread(_) => before,
+        Reason::NothingOpen => State::Fresh,
+        Reason::OutOfOrder => State::Fresh,
+        Reason::OtherWords => State::Fresh,
+        Reason::NoData => State::Fresh,
+        Reason::TooMuchData => State::Fresh,
+        Reason::MessageLong => State::Fresh,
+        Reason::BadState => State::Fresh,
+    }
+}
+
+fn refuse(reason: Reason, before: State) -> Answer
+    ensures { λ r. ⌜ r ≡ refusal reason before ⌝ }
 {
     Answer {
         verdict: Verdict::Refused(reason),
-        state: State::Fresh,
+        state: state_after(reason, before),
     }
+}
+
+fn wait_for(words: Words, next: usize, filled: usize) -> State
+    ensures { λ r. ⌜ r ≡ waiting words next filled ⌝ }
+{
+    let open = Progress {
+        words,
+        next,
+        filled,
+    };
+    State::Open(open)
 }
 
 // Whether a state is fresh or consistent, over a buffer of `room` bytes.
@@ -134,10 +161,10 @@ fn accept_data(words: Words, index: usize, filled: usize, piece: &[u8], buf: &mu
 {
     let total = words.total as usize;
     if lacks_data(piece.len(), total) {
-        return refuse(Reason::NoData);
+        return refuse(Reason::NoData, State::Fresh);
     }
     if total - filled < piece.len() {
-        return refuse(Reason::TooMuchData);
+        return refuse(Reason::TooMuchData, State::Fresh);
     }
     le::copy(piece, &mut buf[filled..]);
     let now_filled = filled + piece.len();
@@ -149,11 +176,7 @@ fn accept_data(words: Words, index: usize, filled: usize, piece: &[u8], buf: &mu
     }
     Answer {
         verdict: Verdict::More,
-        state: State::Open(Progress {
-            words,
-            next: index + 1,
-            filled: now_filled,
-        }),
+        state: wait_for(words, index + 1, now_filled),
     }
 }
 
@@ -164,10 +187,10 @@ fn begin_message(words: Words, piece: &[u8], buf: &mut [u8]) -> Answer
 {
     let total = words.total as usize;
     if Header::MESSAGE_MAX < total {
-        return refuse(Reason::MessageLong);
+        return refuse(Reason::MessageLong, State::Fresh);
     }
     if buf.len() < total {
-        return refuse(Reason::MessageLong);
+        return refuse(Reason::MessageLong, State::Fresh);
     }
     accept_data(words, 0, 0, piece, buf)
 }
@@ -179,14 +202,14 @@ fn continue_message(h: Header, piece: &[u8], state: State, buf: &mut [u8]) -> An
     ensures { λ _. ⌜ now (buf .exit) ≡ proceed h (now (piece .entry)) state (now (buf .entry)) .buffer ⌝ }
 {
     let State::Open(open) = state else {
-        return refuse(Reason::NothingOpen);
+        return refuse(Reason::NothingOpen, state);
     };
     if h.index as usize != open.next {
-        return refuse(Reason::OutOfOrder);
+        return refuse(Reason::OutOfOrder, state);
     }
     let words = open.words;
     if !same_words(h.words, words) {
-        return refuse(Reason::OtherWords);
+        return refuse(Reason::OtherWords, state);
     }
     accept_data(words, open.next, open.filled, piece, buf)
 }
@@ -206,14 +229,11 @@ pub fn step(state: State, frame: &[u8], us: u32, buf: &mut [u8]) -> Answer
     ensures { λ _. ⌜ now (buf .exit) ≡ stepOf us state (now (buf .entry)) (now (frame .entry)) .buffer ⌝ }
 {
     if !is_consistent(state, buf.len()) {
-        return refuse(Reason::BadState);
+        return refuse(Reason::BadState, state);
     }
     let parsed = frame::read::parse(frame, us);
     let Parsed::Header(h) = parsed else {
-        return Answer {
-            verdict: Verdict::Refused(unread(parsed)),
-            state,
-        };
+        return refuse(unread(parsed), state);
     };
     let piece = frame::read::data(frame);
     if h.index == 0 {

@@ -1,11 +1,17 @@
 -- `reassembly::accept_data` meets its contract: at each `return` the tests that led there say which answer it is; the data lands from the first
 -- unfilled byte on.
 -- Assumes nothing.
-use mathlib.Core.Path.{refl, sym, _∙_}
+use Prim.Native.Nat.{ℕ, _+_}
+use mathlib.Core.Path.{refl, sym, ap, _∙_}
+use native.Mathlib.Numerals.{add-one}
 use native.Mathlib.Omega.{arith}
+use lib.ListN.{length}
 use Rattle.le.proofs.Parts.{copied-at}
-use Rattle.reassembly.specs.Step.{accept}
-use Rattle.reassembly.proofs.Answers.{as-in, lacking, excess, delivers, wants-more}
+use Rattle.reassembly.specs.Step.{waiting, landed, accept}
+use Rattle.reassembly.specs.declared.Answer.{Answer}
+use Rattle.reassembly.specs.declared.State.{State}
+use Rattle.reassembly.specs.declared.Verdict.the-variants.{More}
+use Rattle.reassembly.proofs.Answers.{as-in, lacking, excess, data-taken, whole, not-whole}
 use borrow.Author.Needs.{needs}
 use Rattle.reassembly.proofs.accept_data.Statement.{statement}
 use Rattle.reassembly.proofs.accept_data.Tie as tie
@@ -23,12 +29,12 @@ returns : tie.Need-returns
 returns c =
     let args = c .before .before .before .before .before .before .args in
     let w = args .words in
+    let i = args .index in
+    let filled = args .filled in
     let p = args .piece .now in
     let b = args .buf .now in
-    as-in (accept w (args .index) (args .filled) p b) _ _ _
-    (lacking w (args .index) (args .filled) p b (sym (c .before .before .lacks-data .ensures) ∙ c .before .if1 .taken))
-    (c .refuse .ensures)
-    refl
+    let lacks = sym (c .before .before .lacks-data .ensures) ∙ c .before .if1 .taken in
+    as-in (accept w i filled p b) _ _ _ (lacking w i filled p b lacks) (c .refuse .ensures) refl
 
 sub-if2 : tie.Need-sub-if2
 sub-if2 c = search needs
@@ -40,12 +46,12 @@ returns-2 : tie.Need-returns-2
 returns-2 c =
     let args = c .before .before .before .before .before .before .before .args in
     let w = args .words in
+    let i = args .index in
+    let filled = args .filled in
     let p = args .piece .now in
     let b = args .buf .now in
-    as-in (accept w (args .index) (args .filled) p b) _ _ _
-    (excess w (args .index) (args .filled) p b (sym (c .before .before .before .lacks-data .ensures) ∙ c .before .before .if1 .left) (c .before .if2 .taken))
-    (c .refuse2 .ensures)
-    refl
+    let some = sym (c .before .before .before .lacks-data .ensures) ∙ c .before .before .if1 .left in
+    as-in (accept w i filled p b) _ _ _ (excess w i filled p b some (c .before .if2 .taken)) (c .refuse2 .ensures) refl
 
 sub-copy : tie.Need-sub-copy
 sub-copy c = search needs
@@ -69,29 +75,35 @@ returns-3 : tie.Need-returns-3
 returns-3 c =
     let args = c .before .before .before .before .before .before .before .before .before .before .before .args in
     let w = args .words in
+    let i = args .index in
+    let filled = args .filled in
     let p = args .piece .now in
     let b = args .buf .now in
-    as-in (accept w (args .index) (args .filled) p b) _ _ _
-    (delivers w (args .index) (args .filled) p b (sym (c .before .before .before .before .before .before .before .lacks-data .ensures) ∙ c .before .before .before .before .before .before .if1 .left) (c .before .before .before .before .before .if2 .left) (c .if3 .taken))
-    refl
-    (copied-at p b _ (args .filled) (omega arith) (c .before .before .before .copy .ensures))
+    let some = sym (c .before .before .before .before .before .before .before .lacks-data .ensures) ∙ c .before .before .before .before .before .before .if1 .left in
+    let at-place = copied-at p b _ filled (omega arith) (c .before .before .before .copy .ensures) in
+    as-in (accept w i filled p b) _ _ _ (data-taken w i filled p b some (c .before .before .before .before .before .if2 .left) ∙ whole w i (filled + length p) (landed filled p b) (c .if3 .taken)) refl at-place
 
-add-t9 : tie.Need-add-t9
-add-t9 c = search needs
+add-wait-for : tie.Need-add-wait-for
+add-wait-for c = search needs
+
+wait-for-requires : tie.Need-wait-for-requires
+wait-for-requires c κs = search needs
 
 same-length-2 : tie.Need-same-length-2
 same-length-2 c = search needs
 
 returns-4 : tie.Need-returns-4
 returns-4 c =
-    let args = c .before .before .before .before .before .before .before .before .before .before .before .args in
+    let args = c .before .before .before .before .before .before .before .before .before .before .before .before .args in
     let w = args .words in
+    let i = args .index in
+    let filled = args .filled in
     let p = args .piece .now in
     let b = args .buf .now in
-    as-in (accept w (args .index) (args .filled) p b) _ _ _
-    (wants-more w (args .index) (args .filled) p b (sym (c .before .before .before .before .before .before .before .lacks-data .ensures) ∙ c .before .before .before .before .before .before .if1 .left) (c .before .before .before .before .before .if2 .left) (c .if3 .left))
-    refl
-    (copied-at p b _ (args .filled) (omega arith) (c .before .before .before .copy .ensures))
+    let some = sym (c .before .before .before .before .before .before .before .before .lacks-data .ensures) ∙ c .before .before .before .before .before .before .before .if1 .left in
+    let at-place = copied-at p b _ filled (omega arith) (c .before .before .before .before .copy .ensures) in
+    let more-wanted : State → Answer = λ s. record { verdict = More; state = s } in
+    as-in (accept w i filled p b) _ _ _ (data-taken w i filled p b some (c .before .before .before .before .before .before .if2 .left) ∙ not-whole w i (filled + length p) (landed filled p b) (c .before .if3 .left)) (ap more-wanted (c .wait-for .ensures ∙ ap (λ (n : ℕ). waiting w n (filled + length p)) (add-one i))) at-place
 
 pub accept-data-spec : {M : Type 1} → statement M
 accept-data-spec =
@@ -111,6 +123,7 @@ accept-data-spec =
     add-now-filled
     same-length
     returns-3
-    add-t9
+    add-wait-for
+    wait-for-requires
     same-length-2
     returns-4)

@@ -3,11 +3,11 @@
 -- Assumes nothing.
 use mathlib.Core.Path.{refl, sym, ap, _∙_}
 use native.Mathlib.Omega.{arith}
-use borrow.Author.Tests.{not-true, not-false}
+use borrow.Author.Tests.{eq-eqb, ne-eqb, not-true, not-false}
 use lib.ListN.{length}
-use Rattle.reassembly.specs.Step.{consistent, proceed}
+use Rattle.reassembly.specs.Step.{consistent, refusal, proceed}
 use Rattle.reassembly.specs.declared.State.{State}
-use Rattle.reassembly.proofs.Answers.{as-in, Consistent, consistent-open, none-open, other-index, other-words, goes-on}
+use Rattle.reassembly.proofs.Answers.{as-in, consistent-open, none-open, other-index, other-words, goes-on}
 use borrow.Author.Needs.{needs}
 use Rattle.reassembly.proofs.continue_message.Statement.{statement}
 use Rattle.reassembly.proofs.continue_message.Tie as tie
@@ -28,10 +28,8 @@ returns c =
     let p = args .piece .now in
     let b = args .buf .now in
     let given = c .before .enum-told .given in
-    as-in (proceed h p (args .state) b) _ _ _
-    (ap (λ (s : State). proceed h p s b) (given .1) ∙ none-open h p b)
-    (c .refuse .ensures)
-    refl
+    let stands = ap (λ (s : State). proceed h p s b) (given .1) in
+    as-in (proceed h p (args .state) b) _ _ _ (stands ∙ none-open h p b) (c .refuse .ensures ∙ ap (refusal _) (given .1)) refl
 
 cast-if1 : tie.Need-cast-if1
 cast-if1 c = search needs
@@ -46,10 +44,8 @@ returns-2 c =
     let p = args .piece .now in
     let b = args .buf .now in
     let given = c .before .before .before .before .before .state .given in
-    as-in (proceed h p (args .state) b) _ _ _
-    (ap (λ (s : State). proceed h p s b) (given .1) ∙ other-index h p b (given .0 .0) (c .before .if1 .taken))
-    (c .refuse2 .ensures)
-    refl
+    let stands = ap (λ (s : State). proceed h p s b) (given .1) in
+    as-in (proceed h p (args .state) b) _ _ _ (stands ∙ other-index h p b (given .0 .0) (ne-eqb _ _ (c .before .if1 .taken))) (c .refuse2 .ensures ∙ ap (refusal _) (given .1)) refl
 
 same-words-requires : tie.Need-same-words-requires
 same-words-requires c κs = search needs
@@ -64,10 +60,10 @@ returns-3 c =
     let p = args .piece .now in
     let b = args .buf .now in
     let given = c .before .before .before .before .before .before .before .before .state .given in
-    as-in (proceed h p (args .state) b) _ _ _
-    (ap (λ (s : State). proceed h p s b) (given .1) ∙ other-words h p b (given .0 .0) (c .before .before .before .before .if1 .left) (sym (c .before .before .same-words .ensures) ∙ not-true _ (c .before .if2 .taken)))
-    (c .refuse3 .ensures)
-    refl
+    let stands = ap (λ (s : State). proceed h p s b) (given .1) in
+    let next = eq-eqb _ _ (c .before .before .before .before .if1 .left) in
+    let differ = sym (c .before .before .same-words .ensures) ∙ not-true _ (c .before .if2 .taken) in
+    as-in (proceed h p (args .state) b) _ _ _ (stands ∙ other-words h p b (given .0 .0) next differ) (c .refuse3 .ensures ∙ ap (refusal _) (given .1)) refl
 
 accept-data-requires : tie.Need-accept-data-requires
 accept-data-requires c κs =
@@ -87,10 +83,10 @@ returns-4 c =
     let p = args .piece .now in
     let b = args .buf .now in
     let given = c .before .before .before .before .before .before .before .before .before .before .before .state .given in
-    as-in (proceed h p (args .state) b) _ _ _
-    (ap (λ (s : State). proceed h p s b) (given .1) ∙ goes-on h p b (given .0 .0) (c .before .before .before .before .before .before .before .if1 .left) (sym (c .before .before .before .before .before .same-words .ensures) ∙ not-false _ (c .before .before .before .before .if2 .left)))
-    (c .before .before .accept-data .ensures .0)
-    (c .before .before .accept-data .ensures .1)
+    let stands = ap (λ (s : State). proceed h p s b) (given .1) in
+    let next = eq-eqb _ _ (c .before .before .before .before .before .before .before .if1 .left) in
+    let same = sym (c .before .before .before .before .before .same-words .ensures) ∙ not-false _ (c .before .before .before .before .if2 .left) in
+    as-in (proceed h p (args .state) b) _ _ _ (stands ∙ goes-on h p b (given .0 .0) next same) (c .before .before .accept-data .ensures .0) (c .before .before .accept-data .ensures .1)
 
 pub continue-message-spec : {M : Type 1} → statement M
 continue-message-spec =
