@@ -1,4 +1,4 @@
--- What follows for states and runs: `stays-consistent`, `never-bad`, `refusal-leaves`, `never-in-vain`, `written-is-handed-up`.
+-- What follows for states and runs: `stays-consistent`, `never-bad`, `refusal-leaves`, `never-in-vain`, `sent-is-framed`, `written-is-handed-up`.
 -- Assumes nothing.
 use Prim.Native.Nat.{ℕ, zero, suc, _+_, _-_, _^_, _≤_, _<_}
 use mathlib.Core.Bool.{Bool, true, false}
@@ -27,7 +27,7 @@ use Rattle.reassembly.specs.Step.{Stepped, numberOf, consistent, sameWor
 use Rattle.reassembly.specs.Run.{HandedUp, handedUp, run, verdicts}
 use Rattle.reassembly.specs.Traffic.{Sent, Transmission, Traffic, PutIn, Legal, envelopeFor, callsFrom, callsOf, calls, allArrive, asSent, expectedFrom, gives, expectedOf, expected}
 use Rattle.reassembly.specs.Helpers.{lacksData}
-use Rattle.reassembly.specs.Statements.{NotBad, StaysConsistent, NeverBad, RefusalLeaves, NeverInVain, Outgoing, LegalOutgoing, framesOf, handsUp, WrittenIsHandedUp}
+use Rattle.reassembly.specs.Statements.{NotBad, StaysConsistent, NeverBad, RefusalLeaves, untouched, SentIsFramed, NeverInVain, Outgoing, LegalOutgoing, framesOf, handsUp, WrittenIsHandedUp}
 use Rattle.reassembly.specs.declared.Progress.{Progress}
 use Rattle.reassembly.specs.declared.State.{State}
 use Rattle.reassembly.specs.declared.State.the-variants.{Fresh, Open}
@@ -214,6 +214,21 @@ calls-sent : (e : Envelope) (total i : ℕ) (ps : List (List ℕ)) → callsFrom
 unfolding callsFrom framesFrom
 calls-sent e total i [] = refl
 calls-sent e total i (p ∷ ps) = ap (λ (l : List (List ℕ)). frameOf (headerFor e total i) p ∷ l) (calls-sent e total (suc i) ps)
+
+untouched-are : (ss : List Sent) → untouched ss ≡ sentAll (map (λ s. s .piece) ss)
+untouched-are [] = refl
+untouched-are (s ∷ ss) = ap (λ (l : List Sent). record { before = []; piece = s .piece; arrives = true } ∷ l) (untouched-are ss)
+
+pub sent-is-framed : SentIsFramed
+sent-is-framed us room t legal =
+    let e = envelopeFor us (t .message) in
+    let total = length (t .message .bytes) in
+    record {
+      pieces = map (λ s. s .piece) (t .frames);
+      bounded = legal .bounded;
+      cut = legal .cut;
+      frames-are = ap (callsFrom e total 0) (untouched-are (t .frames)) ∙ calls-sent e total 0 (map (λ s. s .piece) (t .frames));
+    }
 
 expected-sent : (up : Option HandedUp) (p : List ℕ) (ps : List (List ℕ)) → expectedFrom up (sentAll (p ∷ ps)) ≡ replicate (length ps) none ++ (up ∷ [])
 unfolding expectedFrom

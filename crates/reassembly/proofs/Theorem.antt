@@ -9,25 +9,25 @@
 -- Assumes nothing.
 use Prim.Native.Nat.{ℕ, suc, _+_, _^_, _≤_, _<_}
 use mathlib.Core.Bool.{Bool, true, false, cond, _&&_}
-use mathlib.Core.Path.{_≡_, refl, ap, _∙_}
+use mathlib.Core.Path.{_≡_, refl, ap, ap₂, _∙_}
 use mathlib.Core.List.{List, [], _∷_, _++_, map, flatten, append-assoc, append-nil}
 use mathlib.Core.Option.{Option, none, some}
 use native.Mathlib.Nat.{pos-of-ne-zero}
 use native.Mathlib.Omega.{arith}
-use borrow.Author.Tests.{eq-eqb, ne-eqb, le-leb}
+use borrow.Author.Tests.{le-leb}
 use lib.ListN.{length, take, length-append, length-take}
 use Rattle.frame.specs.Layout.{pieceMax, messageMax, headerFor, frameOf}
 use Rattle.frame.specs.Framing.{All, Piece, Cut}
 use Rattle.frame.specs.Statements.{Fits}
 use Rattle.frame.specs.declared.Envelope.{Envelope}
 use Rattle.frame.specs.declared.Words.{Words}
-use Rattle.reassembly.specs.Step.{Stepped, consistent, waiting, landed, accept, stepOf}
+use Rattle.reassembly.specs.Step.{Stepped, consistent, waiting, landed, delivered, accept, stepOf}
 use Rattle.reassembly.specs.Run.{HandedUp, handedUp, run}
 use Rattle.reassembly.specs.Traffic.{Message, Sent, Transmission, PutIn, FirstArrives, Legal, envelopeFor, callsFrom, callsOf, allArrive, asSent, nothing, ifLast, expectedFrom, expectedOf}
 use Rattle.reassembly.specs.Statements.{Demand3}
 use Rattle.reassembly.specs.declared.State.{State}
 use Rattle.reassembly.specs.declared.State.the-variants.{Fresh, Open}
-use Rattle.reassembly.proofs.Answers.{fresh, by-room}
+use Rattle.reassembly.proofs.Answers.{fresh, by-room, whole, not-whole}
 use Rattle.reassembly.proofs.Steps.{put-in, first, later, in-order, Behind, out-of-order, fitting, length-landed, start-landed}
 
 -- the pieces of frames
@@ -169,11 +169,12 @@ module _ (us room : ℕ) (us-fits : us < 2 ^ 32) where
     accepted [] i filled p b len order inside some-data joins ps js =
         let so-far : filled + length p ≡ total = omega (arith, simp (length-append, length-take) at (ap length joins)) in
         let room-left : filled + length p ≤ length b = omega arith in
-        let whole : take total (landed filled p b) ≡ m .bytes =
-        rw (← so-far) (start-landed filled p b room-left ∙ rw append-nil at joins) in
-        let kept = length-landed filled p b room-left in
-        rw (fitting words i filled p b (omega arith) some-data, eq-eqb (filled + length p) total so-far, whole)
-        (ap (λ (l : List (Option HandedUp)). some (asSent m) ∷ l) (continues Fresh (landed filled p b) (fresh-ready (landed filled p b) (kept ∙ len))))
+        let b′ = landed filled p b in
+        let bytes-are : take total b′ ≡ m .bytes = rw (← so-far) (start-landed filled p b room-left ∙ rw append-nil at joins) in
+        let handed : handedUp (delivered words b′ .answer .verdict) b′ ≡ some (asSent m) =
+        ap (λ (bytes : List ℕ). some (record { words = words; length = total; bytes = bytes })) bytes-are in
+        rw (fitting words i filled p b (omega arith) some-data ∙ whole words i (filled + length p) b′ so-far)
+        (ap₂ _∷_ handed (continues Fresh b′ (fresh-ready b′ (length-landed filled p b room-left ∙ len))))
     accepted (s ∷ ss) i filled p b len order inside some-data joins ps js =
         let in-all : filled + (length p + length (flatten (pieces (s ∷ ss)))) ≡ total =
         omega (arith, long s ss, simp (length-append, length-take) at (ap length joins)) in
@@ -187,7 +188,7 @@ module _ (us room : ℕ) (us-fits : us < 2 ^ 32) where
         let joins′ : take filled′ b′ ++ (s .piece ++ flatten (pieces ss)) ≡ m .bytes =
         rw (start-landed filled p b room-left, append-assoc (take filled b) p) joins in
         let then = accepted ss (suc i) filled′ (s .piece) b′ len′ (omega arith) (omega arith) (λ z. absurd (omega arith)) joins′ (ps .1) (js .1) in
-        rw (fitting words i filled p b (omega arith) some-data, ne-eqb filled′ total (λ z. omega arith))
+        rw (fitting words i filled p b (omega arith) some-data ∙ not-whole words i filled′ b′ (λ z. omega arith))
         (ap (λ (l : List (Option HandedUp)). none ∷ l)
         (frame-then (up (s ∷ ss)) (suc i) s ss (js .0) (waiting words (suc i) filled′) b′ r′
         (next-frame s ss i filled′ b′ r′ (omega arith) ps js then (s .arrives))))

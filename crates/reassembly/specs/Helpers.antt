@@ -1,4 +1,5 @@
--- What only private functions' contracts name. No reader has to believe it.
+-- What only private functions' contracts name. No reader has to believe it: `lacking` and `data-taken` of `proofs/Answers.antt` tie `lacksData` to
+-- `accept`, `unread-frame` ties `unreadOf` to `received`.
 -- Assumes nothing.
 use Prim.Native.Nat.{ℕ}
 use mathlib.Core.Bool.{Bool, not, _&&_}

@@ -6,13 +6,13 @@ use mathlib.Core.Path.{_≡_}
 use mathlib.Core.List.{List, [], _∷_, _++_, map, flatten}
 use mathlib.Core.Option.{Option, none, some}
 use lib.ListN.{length, replicate}
-use Rattle.frame.specs.Framing.{All}
+use Rattle.frame.specs.Framing.{All, Framing}
 use Rattle.frame.specs.Statements.{countUp}
 use Rattle.frame.specs.Writing.{counted, frameAt}
 use Rattle.frame.specs.declared.write.Counted.the-variants.{Frames}
 use Rattle.reassembly.specs.Step.{numberOf, consistent, stepOf}
 use Rattle.reassembly.specs.Run.{HandedUp, run, verdicts}
-use Rattle.reassembly.specs.Traffic.{Message, Traffic, LegalTraffic, envelopeFor, calls, asSent, expected}
+use Rattle.reassembly.specs.Traffic.{Message, Sent, Transmission, Traffic, Legal, LegalTraffic, envelopeFor, callsFrom, calls, asSent, expected}
 use Rattle.reassembly.specs.declared.State.{State}
 use Rattle.reassembly.specs.declared.State.the-variants.{Fresh}
 use Rattle.reassembly.specs.declared.Reason.{Reason}
@@ -40,6 +40,17 @@ Demand3 =
     → us < 2 ^ 32
     → LegalTraffic us (length buffer) traffic
     → run us Fresh buffer (calls us traffic) ≡ expected traffic
+
+-- `sent-is-framed`. What is sent is a framing in the sense of `frame`: of a legal transmission the calls, had nothing been taken out or put in, are one.
+abbrev pub untouched : List Sent → List Sent
+untouched ss = map (λ s. record { before = []; piece = s .piece; arrives = true }) ss
+
+abbrev pub SentIsFramed : Type 0
+SentIsFramed =
+    (us room : ℕ) (t : Transmission)
+    → Legal us room t
+    → Framing (envelopeFor us (t .message)) (t .message .bytes)
+    (callsFrom (envelopeFor us (t .message)) (length (t .message .bytes)) 0 (untouched (t .frames)))
 
 -- `never-in-vain`. The same after any frames at all, be they whole messages, parts of some or garbage: what comes then is handed up as if it had come
 -- first. So no message is waited for in vain, and none that comes whole is lost.

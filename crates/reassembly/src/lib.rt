@@ -19,25 +19,35 @@ pub struct Progress {
     pub filled: usize,
 }
 
+// What is kept between two calls.
 pub enum State {
+    // Nothing is open.
     Fresh,
     Open(Progress),
 }
 
 // Why a frame is refused.
 pub enum Reason {
-    // The frame does not parse.
+    // 1 to 4: the frame does not parse.
     Unread(frame::read::Reason),
+    // 5: Index not 0, nothing open.
     NothingOpen,
+    // 6: Index not 0, and not the next one.
     OutOfOrder,
+    // 7: Index is the next one, a carried word differs.
     OtherWords,
+    // 8: no data though total is not 0.
     NoData,
+    // 9: more data than is still missing.
     TooMuchData,
+    // 10: Index 0, total over 4,096 or over the buffer.
     MessageLong,
+    // 11: the state handed in is neither fresh nor consistent.
     BadState,
 }
 
 pub enum Verdict {
+    // More of the message is wanted.
     More,
     // The carried words, and the message's length: it is the buffer's first bytes, as many as that.
     Delivered(Words, usize),
@@ -129,6 +139,7 @@ fn is_consistent(state: State, room: usize) -> bool
     total <= room
 }
 
+// Whether the four carried words are the same.
 fn same_words(v: Words, w: Words) -> bool
     ensures { λ r. ⌜ r ≡ sameWords v w ⌝ }
 {
@@ -214,6 +225,7 @@ fn continue_message(h: Header, piece: &[u8], state: State, buf: &mut [u8]) -> An
     accept_data(words, open.next, open.filled, piece, buf)
 }
 
+// Why a frame did not parse. It is called only for one that did not; `let .. else` does not say so.
 fn unread(parsed: Parsed) -> Reason
     ensures { λ r. ⌜ r ≡ unreadOf parsed ⌝ }
 {
@@ -223,7 +235,8 @@ fn unread(parsed: Parsed) -> Reason
     }
 }
 
-// One call: a frame, for the receiver `us`, with the state and the buffer as the last call left them.
+// One call: a frame, for the receiver `us`. Any state is answered; one that is neither fresh nor consistent
+// gets 11. Accepted data lands in the buffer from the first unfilled byte on; a refusal changes no byte.
 pub fn step(state: State, frame: &[u8], us: u32, buf: &mut [u8]) -> Answer
     ensures { λ r. ⌜ r ≡ stepOf us state (now (buf .entry)) (now (frame .entry)) .answer ⌝ }
     ensures { λ _. ⌜ now (buf .exit) ≡ stepOf us state (now (buf .entry)) (now (frame .entry)) .buffer ⌝ }

@@ -3,7 +3,7 @@
 use mathlib.Core.Path.{sym, ap, _∙_}
 use Rattle.reassembly.specs.Step.{consistent}
 use Rattle.reassembly.specs.declared.State.{State}
-use Rattle.reassembly.proofs.Answers.{fresh, no-next, next-ahead, all-filled, over-long, by-room}
+use Rattle.reassembly.proofs.Answers.{no-next, next-ahead, all-filled, over-long, by-room}
 use borrow.Author.Needs.{needs}
 use Rattle.reassembly.proofs.is_consistent.Statement.{statement}
 use Rattle.reassembly.proofs.is_consistent.Tie as tie
@@ -15,9 +15,8 @@ enum-told : tie.Need-enum-told
 enum-told c = search needs
 
 returns : tie.Need-returns
-returns c =
-    let args = c .before .before .args in
-    sym (ap (λ (s : State). consistent s (args .room)) (c .enum-told .given .1) ∙ fresh (args .room))
+unfolding consistent
+returns c = ap (λ (s : State). consistent s (c .before .before .args .room)) (sym (c .enum-told .given .1))
 
 cast-total : tie.Need-cast-total
 cast-total c = search needs
