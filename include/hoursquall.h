@@ -1,5 +1,5 @@
-/* Hoursquall: UBIOS message frames, their reassembly into messages, and the checksums
- * of UBIOS and SFI tables.
+/* Hoursquall: UBIOS message frames, their reassembly into messages, the notice ring,
+ * and the checksums of UBIOS and SFI tables.
  *
  * Link target/staticlib/libhoursquall.a (x86-64, System V calling convention).
  *
@@ -23,6 +23,10 @@ enum {
     HS_FRAME_MAX = 256,
     HS_PIECE_MAX = 232, /* a frame's data: HS_FRAME_MAX less the header */
     HS_MESSAGE_MAX = 4096,
+    HS_RING_MIN = 16,
+    HS_RING_MAX = 65536,
+    HS_NOTICE_HEADER_SIZE = 8, /* Notify ID and Data Length */
+    HS_NOTICE_MAX = 1024,      /* a notice's data */
 };
 
 /* Places of the words that hs_frame_parse hands out, in the frame's order. */
@@ -36,10 +40,12 @@ enum {
     HS_HEADER_WORDS = 6,
 };
 
-/* How many numbers a state of the reassembly has, and a message carried words. */
+/* How many numbers a state of the reassembly has, a message carried words, and a ring
+ * positions. */
 enum {
     HS_STATE_NUMBERS = 7,
     HS_WORDS = 4,
+    HS_POSITIONS = 2,
 };
 
 /* Answers. A refusal is the first in its function's list whose condition holds. */
@@ -62,6 +68,16 @@ enum {
     HS_REFUSED_PIECE_SIZE = 12,    /* piece size 0 or over HS_PIECE_MAX */
     HS_REFUSED_NO_FRAME = 13,      /* the message has no frame of that Index */
     HS_REFUSED_OUTPUT_SHORT = 14,  /* output shorter than the frame */
+};
+
+/* Refusals of the notice ring. */
+enum {
+    HS_REFUSED_BAD_RING = 20,            /* ring_len or a position is not legal */
+    HS_REFUSED_EMPTY = 21,               /* nothing waits */
+    HS_REFUSED_DAMAGED = 22,             /* what waits is no notice */
+    HS_REFUSED_NOTICE_OUTPUT_SHORT = 23, /* output shorter than the data */
+    HS_REFUSED_NOTICE_LONG = 24,         /* data over HS_NOTICE_MAX bytes */
+    HS_REFUSED_FULL = 25,                /* the notice does not fit what is free */
 };
 
 /* The bytes added up modulo 2^8, the sum of SFI tables. Changes nothing. */
@@ -104,6 +120,29 @@ uint32_t hs_frame_write(uint32_t id, uint32_t sender, uint32_t status,
 uint32_t hs_reassembly_step(uint64_t state[HS_STATE_NUMBERS], const uint8_t *frame,
                             size_t frame_len, uint32_t us, uint8_t *buffer,
                             size_t buffer_len, uint32_t words[HS_WORDS]);
+
+/* Posts a notice to a ring, behind those that wait: id and the data's length, as
+ * little-endian 32-bit words, then the data, running past the ring's last byte to its
+ * first. HS_OK: only the notice's bytes of ring and positions[1] are changed. Refusals
+ * 20, 24, 25: ring and positions are unchanged.
+ *
+ * positions[0] is read, where the oldest notice starts; positions[1] is write, where
+ * the next one will: offsets below ring_len. Equal means empty, so two zeros are an
+ * empty ring, whatever its bytes are, and at most ring_len - 1 bytes wait. ring_len is
+ * HS_RING_MIN to HS_RING_MAX and a multiple of 8. Anything else gets 20. */
+uint32_t hs_notice_post(uint8_t *ring, size_t ring_len,
+                        size_t positions[HS_POSITIONS], uint32_t id,
+                        const uint8_t *data, size_t data_len);
+
+/* Takes the oldest notice of a ring, with positions as above. HS_OK: *id is its Notify
+ * ID, its data is the first *data_len bytes of out, and out is unchanged behind them;
+ * positions[0] has moved behind the notice, and positions[1] is unchanged. 22: under
+ * HS_NOTICE_HEADER_SIZE bytes wait, or Data Length is over HS_NOTICE_MAX or over what
+ * waits behind the header. Refusals 20, 21, 22, 23: positions, out, *id and *data_len
+ * are unchanged. */
+uint32_t hs_notice_take(const uint8_t *ring, size_t ring_len,
+                        size_t positions[HS_POSITIONS], uint8_t *out, size_t out_len,
+                        uint32_t *id, size_t *data_len);
 
 #ifdef __cplusplus
 }

@@ -8,8 +8,10 @@ use Rattle.frame.specs.Reading.{parsed}
 use Rattle.frame.specs.Writing.{countOf, counted, written}
 use Rattle.reassembly.specs.Step.{consistent, sameWords, accept, begin, proceed, received, stepOf}
 use Rattle.reassembly.specs.Run.{verdicts}
+use Rattle.notice.specs.Ring.{badRing, waiting, moved, posted, takenOf}
+use Rattle.notice.specs.Queue.{run, end}
 use Rattle.cases.specs.Cases.{same, isCount, isLength, holds, allHold, starred, StarredHold}
 
 pub starred-hold : StarredHold
-unfolding word bytes total totalOf sum headerBytes parsed countOf counted written consistent sameWords accept begin proceed received stepOf verdicts same isCount isLength holds allHold starred
+unfolding word bytes total totalOf sum headerBytes parsed countOf counted written consistent sameWords accept begin proceed received stepOf verdicts badRing waiting moved posted takenOf run end same isCount isLength holds allHold starred
 starred-hold = refl

@@ -1,6 +1,6 @@
 -- Document 01, "Numbers to check by": the starred numbers of what is built so far, as one table and one statement over it. Each row is a
--- question to the definitions that the code is proved to meet, and the answer that the document gives. Those of the notice ring, the UBIOS root and
--- the SFI tables join with their crates.
+-- question to the definitions that the code is proved to meet, and the answer that the document gives. Those of the UBIOS root and the SFI tables join
+-- with their crates.
 -- Assumes nothing.
 use Prim.Native.Nat.{ℕ, _+_}
 use mathlib.Core.Bool.{Bool, true, false, _&&_}
@@ -16,6 +16,9 @@ use Rattle.reassembly.specs.Run.{verdicts}
 use Rattle.reassembly.specs.declared.State.the-variants.{Fresh}
 use Rattle.reassembly.specs.declared.Verdict.{Verdict}
 use Rattle.reassembly.specs.declared.Verdict.the-variants.{More, Delivered, Refused}
+use Rattle.notice.specs.Ring as Ring
+use Rattle.notice.specs.Queue.{Notice, Operation, post, take as takeTo, Seen, accepted, rejected, given, nothing, run, end, ringStep}
+use Rattle.notice.specs.Statements.{empty}
 use Rattle.frame.specs.declared.write.Counted.{Counted}
 use Rattle.frame.specs.declared.write.Counted.the-variants.{Frames, Refused as Uncounted}
 use Rattle.frame.specs.declared.write.Written.{Written}
@@ -33,6 +36,10 @@ pub data Case : Type 0 where
   refuses : Envelope → List ℕ → ℕ → List ℕ → List ℕ → Case
   -- the first bytes of that output
   writes : Envelope → List ℕ → ℕ → ℕ → List ℕ → Case
+  -- the refusals of these operations on a ring of 16 zero bytes, empty at 0; 0 where there is none
+  sees : List Operation → List ℕ → Case
+  -- the read and the write position after them, and the ring's bytes
+  leaves : List Operation → ℕ → ℕ → List ℕ → Case
 
 -- the same list of numbers
 unfoldable pub same : List ℕ → List ℕ → Bool
@@ -54,6 +61,12 @@ refusalOf More = 0
 refusalOf (Delivered words n) = 0
 refusalOf (Refused reason) = numberOf reason
 
+abbrev pub seenRefusal : Seen → ℕ
+seenRefusal accepted = 0
+seenRefusal (rejected reason) = Ring.numberOf reason
+seenRefusal (given id n out) = 0
+seenRefusal (nothing reason out) = Ring.numberOf reason
+
 -- 256 zero bytes
 abbrev pub output : List ℕ
 output = replicate 256 0
@@ -67,6 +80,11 @@ holds (writes e message size index expected) =
     same (take (length expected) (outputAfter e message size index output)) expected
 holds (refuses e message size indices expected) =
     same (map refusalOf (verdicts (e .receiver) Fresh output (map (frameAt e message size) indices))) expected
+holds (sees ops expected) = same (map seenRefusal (run ringStep (empty 0 (replicate 16 0)) ops)) expected
+holds (leaves ops read write expected) =
+    eqb (end ringStep (empty 0 (replicate 16 0)) ops .at .read) read
+    && (eqb (end ringStep (empty 0 (replicate 16 0)) ops .at .write) write
+    && same (end ringStep (empty 0 (replicate 16 0)) ops .bytes) expected)
 
 unfoldable pub allHold : List Case → Bool
 unfolding holds
@@ -80,8 +98,15 @@ envelope = record { id = 0x01020304; sender = 10; status = 0xFFFFFFFF; receiver 
 pub message : List ℕ
 message = 1 ∷ 2 ∷ 3 ∷ 4 ∷ 5 ∷ []
 
+-- notices with this data
+pub seven : Notice
+seven = record { id = 0x01020304; body = 1 ∷ 2 ∷ 3 ∷ 4 ∷ 5 ∷ 6 ∷ 7 ∷ [] }
+
+pub two : Notice
+two = record { id = 0x0A0B0C0D; body = 0xEE ∷ 0xFF ∷ [] }
+
 unfoldable pub starred : List Case
-unfolding envelope message
+unfolding envelope message seven two
 starred =
     -- piece 2: three frames of 26, 26, 25 bytes
     counts 5 2 3
@@ -96,6 +121,15 @@ starred =
     -- 4,096 bytes at 232: 18 frames, the last with 152
     ∷ counts 4096 232 18
     ∷ frames envelope (replicate 4096 7) 232 17 (24 + 152)
+    -- a ring of 16, empty at 0: 8 bytes of data get 25
+    ∷ sees (post (record { id = 0x01020304; body = replicate 8 1 }) ∷ []) (25 ∷ [])
+    -- 7 fit, write position 15
+    ∷ sees (post seven ∷ []) (0 ∷ [])
+    ∷ leaves (post seven ∷ []) 0 15 (4 ∷ 3 ∷ 2 ∷ 1 ∷ 7 ∷ 0 ∷ 0 ∷ 0 ∷ 1 ∷ 2 ∷ 3 ∷ 4 ∷ 5 ∷ 6 ∷ 7 ∷ 0 ∷ [])
+    -- after the take, 2 bytes of data fill places 15 and 0 to 8, write position 9
+    ∷ sees (post seven ∷ takeTo (replicate 7 0) ∷ post two ∷ []) (0 ∷ 0 ∷ 0 ∷ [])
+    ∷ leaves (post seven ∷ takeTo (replicate 7 0) ∷ post two ∷ []) 15 9
+    (0x0C ∷ 0x0B ∷ 0x0A ∷ 2 ∷ 0 ∷ 0 ∷ 0 ∷ 0xEE ∷ 0xFF ∷ 2 ∷ 3 ∷ 4 ∷ 5 ∷ 6 ∷ 7 ∷ 0x0D ∷ [])
     -- used bytes 01 00 00 00 FF sum to 0x100
     ∷ sums 4 (1 ∷ 0 ∷ 0 ∷ 0 ∷ 0xFF ∷ []) 0x100
     ∷ []

@@ -1,3 +1,4 @@
 -- How the answers of the crates are handed out as numbers.
 pub mod Frame
+pub mod Notice
 pub mod Reassembly

@@ -6,14 +6,19 @@ ghost use Rattle.le.specs.Sum.{sum};
 ghost use Rattle.frame.specs.Reading.{parsed};
 ghost use Rattle.frame.specs.Writing.{counted, written, outputAfter};
 ghost use Rattle.reassembly.specs.Step.{stepOf};
+ghost use Rattle.notice.specs.Ring as Ring;
 ghost use Rattle.hoursquall.specs.Reassembly.{stateOf, blockOf, verdictNumber, wordsAfter};
 ghost use Rattle.hoursquall.specs.Frame.{parseNumber, headerAfter, countNumber, countAfter, writeNumber, lengthAfter, envelopeOf};
+ghost use Rattle.hoursquall.specs.Notice.{positionsOf, postNumber, positionsAfterPost, takeNumber, positionsAfterTake, idAfter, dataLengthAfter};
 
 mod state;
 
 use frame::read::Parsed;
 use frame::write::Counted;
 use frame::write::Written;
+use notice::Positions;
+use notice::Posted;
+use notice::Taken;
 use reassembly::Verdict;
 use state::block_of;
 use state::state_of;
@@ -131,5 +136,62 @@ pub extern "C" fn hs_reassembly_step(
             100
         }
         Verdict::Refused(reason) => reason.number(),
+    }
+}
+
+// Posts a notice to a ring; `positions` is a block of two numbers, read and write.
+#[no_mangle]
+pub extern "C" fn hs_notice_post(
+    ring: &mut [u8],
+    positions: &mut [usize; 2],
+    id: u32,
+    body: &[u8],
+) -> u32
+    ensures { λ r. ⌜ r ≡ postNumber (Ring.posted (now (ring .entry)) (positionsOf (now (positions .entry))) id (now (body .entry))) ⌝ }
+    ensures { λ _. ⌜ now (ring .exit) ≡ Ring.ringAfter (Ring.posted (now (ring .entry)) (positionsOf (now (positions .entry))) id (now (body .entry))) (now (ring .entry)) (positionsOf (now (positions .entry))) id (now (body .entry)) ⌝ }
+    ensures { λ _. ⌜ now (positions .exit) ≡ positionsAfterPost (Ring.posted (now (ring .entry)) (positionsOf (now (positions .entry))) id (now (body .entry))) (now (positions .entry)) ⌝ }
+{
+    let block = *positions;
+    let at = Positions {
+        read: block[0],
+        write: block[1],
+    };
+    match notice::post(ring, at, id, body) {
+        Posted::Refused(reason) => reason.number(),
+        Posted::Stored(next) => {
+            *positions = [next.read, next.write];
+            0
+        }
+    }
+}
+
+// Takes the oldest notice of a ring; its data goes to the start of `out`, `extent` receives the data's length.
+#[no_mangle]
+pub extern "C" fn hs_notice_take(
+    ring: &[u8],
+    positions: &mut [usize; 2],
+    out: &mut [u8],
+    id: &mut u32,
+    extent: &mut usize,
+) -> u32
+    ensures { λ r. ⌜ r ≡ takeNumber (Ring.takenOf (now (ring .entry)) (positionsOf (now (positions .entry))) (now (out .entry))) ⌝ }
+    ensures { λ _. ⌜ now (positions .exit) ≡ positionsAfterTake (Ring.takenOf (now (ring .entry)) (positionsOf (now (positions .entry))) (now (out .entry))) (now (positions .entry)) ⌝ }
+    ensures { λ _. ⌜ now (out .exit) ≡ Ring.outputAfter (Ring.takenOf (now (ring .entry)) (positionsOf (now (positions .entry))) (now (out .entry))) (now (ring .entry)) (positionsOf (now (positions .entry))) (now (out .entry)) ⌝ }
+    ensures { λ _. ⌜ now (id .exit) ≡ idAfter (Ring.takenOf (now (ring .entry)) (positionsOf (now (positions .entry))) (now (out .entry))) (now (id .entry)) ⌝ }
+    ensures { λ _. ⌜ now (extent .exit) ≡ dataLengthAfter (Ring.takenOf (now (ring .entry)) (positionsOf (now (positions .entry))) (now (out .entry))) (now (extent .entry)) ⌝ }
+{
+    let block = *positions;
+    let at = Positions {
+        read: block[0],
+        write: block[1],
+    };
+    match notice::take(ring, at, out) {
+        Taken::Refused(reason) => reason.number(),
+        Taken::Notice(i, length, rest) => {
+            *positions = [rest.read, rest.write];
+            *id = i;
+            *extent = length;
+            0
+        }
     }
 }

@@ -2,6 +2,7 @@
 //! isn't either, and with the arguments of the C functions.
 
 const HEADER_SIZE: usize = 24;
+const NOTICE_HEADER_SIZE: usize = 8;
 
 #[inline(never)]
 pub fn sum8(bytes: &[u8]) -> u8 {
@@ -124,7 +125,7 @@ pub fn step(
     if refusal != 0 {
         return refusal;
     }
-    let answer = take(state, &header, &frame[HEADER_SIZE..], buffer);
+    let answer = accept(state, &header, &frame[HEADER_SIZE..], buffer);
     if answer == 100 {
         *words = [header[1], header[2], header[4], header[5]];
     }
@@ -144,7 +145,7 @@ fn is_state(&[kind, id, sender, status, total, next, filled]: &[u64; 7], buffer:
 
 /// What a frame that parses leads to. A state in which more is wanted is written here.
 #[inline(always)]
-fn take(state: &mut [u64; 7], header: &[u32; 6], data: &[u8], buffer: &mut [u8]) -> u32 {
+fn accept(state: &mut [u64; 7], header: &[u32; 6], data: &[u8], buffer: &mut [u8]) -> u32 {
     let [index, id, sender, _, status, total] = header.map(u64::from);
     if index == 0 {
         if total > 4096 || total > buffer.len() as u64 {
@@ -174,6 +175,116 @@ fn take(state: &mut [u64; 7], header: &[u32; 6], data: &[u8], buffer: &mut [u8])
     } else {
         0
     }
+}
+
+#[inline(never)]
+pub fn post(ring: &mut [u8], positions: &mut [usize; 2], id: u32, data: &[u8]) -> u32 {
+    let [read, write] = *positions;
+    if !is_ring(ring.len(), read, write) {
+        return 20;
+    }
+    if data.len() > 1024 {
+        return 24;
+    }
+    let length = NOTICE_HEADER_SIZE + data.len();
+    if length > ring.len() - 1 - distance(ring.len(), read, write) {
+        return 25;
+    }
+    let mut header = [0; NOTICE_HEADER_SIZE];
+    header[..4].copy_from_slice(&id.to_le_bytes());
+    header[4..].copy_from_slice(&(data.len() as u32).to_le_bytes());
+    copy_in(ring, write, &header);
+    let start = moved(ring.len(), write, NOTICE_HEADER_SIZE);
+    copy_in(ring, start, data);
+    positions[1] = moved(ring.len(), write, length);
+    0
+}
+
+#[inline(never)]
+pub fn take(
+    ring: &[u8],
+    positions: &mut [usize; 2],
+    out: &mut [u8],
+    id: &mut u32,
+    data_len: &mut usize,
+) -> u32 {
+    let [read, write] = *positions;
+    if !is_ring(ring.len(), read, write) {
+        return 20;
+    }
+    if read == write {
+        return 21;
+    }
+    let waiting = distance(ring.len(), read, write);
+    if waiting < NOTICE_HEADER_SIZE {
+        return 22;
+    }
+    let mut header = [0; NOTICE_HEADER_SIZE];
+    copy_out(ring, read, &mut header);
+    let length = word_at(&header, 4) as usize;
+    if length > 1024 || length > waiting - NOTICE_HEADER_SIZE {
+        return 22;
+    }
+    if out.len() < length {
+        return 23;
+    }
+    let start = moved(ring.len(), read, NOTICE_HEADER_SIZE);
+    copy_out(ring, start, &mut out[..length]);
+    *id = word_at(&header, 0);
+    *data_len = length;
+    positions[0] = moved(ring.len(), read, NOTICE_HEADER_SIZE + length);
+    0
+}
+
+#[inline(always)]
+fn is_ring(capacity: usize, read: usize, write: usize) -> bool {
+    let legal = (16..=65_536).contains(&capacity) && capacity.is_multiple_of(8);
+    legal && read < capacity && write < capacity
+}
+
+/// How many bytes wait between the positions.
+#[inline(always)]
+fn distance(capacity: usize, read: usize, write: usize) -> usize {
+    if read <= write {
+        write - read
+    } else {
+        capacity - read + write
+    }
+}
+
+/// A position moved on by less than the capacity.
+#[inline(always)]
+fn moved(capacity: usize, position: usize, by: usize) -> usize {
+    let end = position + by;
+    if end < capacity {
+        end
+    } else {
+        end - capacity
+    }
+}
+
+/// Copies into the ring, in two parts if it runs past the last byte.
+#[inline(always)]
+fn copy_in(ring: &mut [u8], at: usize, bytes: &[u8]) {
+    if let Some(place) = ring.get_mut(at..at + bytes.len()) {
+        place.copy_from_slice(bytes);
+        return;
+    }
+    let (first, rest) = bytes.split_at(ring.len() - at);
+    ring[at..].copy_from_slice(first);
+    ring[..rest.len()].copy_from_slice(rest);
+}
+
+/// Copies out of the ring likewise.
+#[inline(always)]
+fn copy_out(ring: &[u8], at: usize, bytes: &mut [u8]) {
+    if let Some(place) = ring.get(at..at + bytes.len()) {
+        bytes.copy_from_slice(place);
+        return;
+    }
+    let (first, rest) = bytes.split_at_mut(ring.len() - at);
+    first.copy_from_slice(&ring[at..]);
+    rest.copy_from_slice(&ring[..rest.len()]);
 }
 
 fn word_at(bytes: &[u8], at: usize) -> u32 {

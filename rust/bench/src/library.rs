@@ -80,3 +80,42 @@ pub fn step(
         )
     }
 }
+
+#[inline(always)]
+pub fn post(ring: &mut [u8], positions: &mut [usize; 2], id: u32, data: &[u8]) -> u32 {
+    // SAFETY: each pointer and length are those of one slice; what is written is borrowed
+    // exclusively.
+    unsafe {
+        raw::hs_notice_post(
+            ring.as_mut_ptr(),
+            ring.len(),
+            positions,
+            id,
+            data.as_ptr(),
+            data.len(),
+        )
+    }
+}
+
+#[inline(always)]
+pub fn take(
+    ring: &[u8],
+    positions: &mut [usize; 2],
+    out: &mut [u8],
+    id: &mut u32,
+    data_len: &mut usize,
+) -> u32 {
+    // SAFETY: each pointer and length are those of one slice; what is written is borrowed
+    // exclusively.
+    unsafe {
+        raw::hs_notice_take(
+            ring.as_ptr(),
+            ring.len(),
+            positions,
+            out.as_mut_ptr(),
+            out.len(),
+            id,
+            data_len,
+        )
+    }
+}

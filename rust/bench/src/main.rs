@@ -15,11 +15,16 @@ const STATUS: u32 = 0;
 const MESSAGE: usize = 4096;
 const PIECE: usize = 232;
 
+const RING: usize = 4096;
+const NOTICE: usize = 1024;
+
 /// The functions as both sides have them.
 type Parse = fn(&[u8], u32, &mut [u32; 6]) -> u32;
 type Count = fn(usize, usize, &mut usize) -> u32;
 type Write = fn(u32, u32, u32, u32, &[u8], usize, usize, &mut [u8], &mut usize) -> u32;
 type Step = fn(&mut [u64; 7], &[u8], u32, &mut [u8], &mut [u32; 4]) -> u32;
+type Post = fn(&mut [u8], &mut [usize; 2], u32, &[u8]) -> u32;
+type Take = fn(&[u8], &mut [usize; 2], &mut [u8], &mut u32, &mut usize) -> u32;
 
 fn main() {
     print_head();
@@ -30,6 +35,9 @@ fn main() {
     count();
     reassemble("reassemble 4,096 B in pieces of 232", PIECE);
     reassemble("reassemble 4,096 B in pieces of 1", 1);
+    post_and_take("post and take, 0 B", 0);
+    post_and_take("post and take, 256 B", 256);
+    post_and_take("post and take, 1,024 B", NOTICE);
 }
 
 fn sums() {
@@ -100,6 +108,37 @@ fn reassemble(what: &str, piece_size: usize) {
     assert_eq!(rust_buffer, message, "{what}: Rust's message");
 }
 
+/// A post into an empty ring, and the take of that notice. The positions move on with each pair,
+/// so that some notices run past the ring's last byte.
+fn post_and_take(what: &str, length: usize) {
+    let data = pattern(length);
+    let (mut library_ring, mut rust_ring) = (Ring::new(), Ring::new());
+    print_row(
+        what,
+        || call_post_and_take(library::post, library::take, &data, &mut library_ring),
+        || call_post_and_take(baseline::post, baseline::take, &data, &mut rust_ring),
+    );
+    assert_eq!(library_ring.out[..length], data, "{what}: the library's");
+    assert_eq!(rust_ring.out[..length], data, "{what}: Rust's");
+}
+
+/// What the posts and takes are lent, besides the data.
+struct Ring {
+    bytes: [u8; RING],
+    positions: [usize; 2],
+    out: [u8; NOTICE],
+}
+
+impl Ring {
+    fn new() -> Ring {
+        Ring {
+            bytes: [0; RING],
+            positions: [0; 2],
+            out: [0; NOTICE],
+        }
+    }
+}
+
 /// All frames of a message.
 fn frames(message: &[u8; MESSAGE], piece_size: usize) -> Vec<Vec<u8>> {
     let frame = |index| {
@@ -167,4 +206,18 @@ fn call_steps(step: Step, frames: &[Vec<u8>], buffer: &mut [u8; MESSAGE]) -> (u3
         answer = step(state, frame, black_box(RECEIVER), buffer, &mut words);
     }
     (answer, words)
+}
+
+#[inline(always)]
+fn call_post_and_take(post: Post, take: Take, data: &[u8], ring: &mut Ring) -> (u32, u32, usize) {
+    let (mut id, mut data_len) = (0, 0);
+    let data = black_box(data);
+    let Ring {
+        bytes,
+        positions,
+        out,
+    } = black_box(ring);
+    let posted = post(bytes, positions, black_box(ID), data);
+    let taken = take(bytes, positions, out, &mut id, &mut data_len);
+    (posted + taken, id, data_len)
 }

@@ -3,6 +3,7 @@
 
 pub mod frames;
 pub mod memory;
+pub mod notice;
 pub mod random;
 pub mod reassembly;
 

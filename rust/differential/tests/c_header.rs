@@ -35,10 +35,12 @@ fn declarator(name: &str, kind: &str) -> String {
         "usize" => format!("size_t {name}"),
         "*const u8" => format!("const uint8_t *{name}"),
         "*mut u8" => format!("uint8_t *{name}"),
+        "*mut u32" => format!("uint32_t *{name}"),
         "*mut usize" => format!("size_t *{name}"),
         "*mut [u32; 6]" => format!("uint32_t {name}[HS_HEADER_WORDS]"),
         "*mut [u32; 4]" => format!("uint32_t {name}[HS_WORDS]"),
         "*mut [u64; 7]" => format!("uint64_t {name}[HS_STATE_NUMBERS]"),
+        "*mut [usize; 2]" => format!("size_t {name}[HS_POSITIONS]"),
         _ => panic!("{name}: no C type is listed here for {kind}"),
     }
 }
@@ -60,11 +62,15 @@ fn is_function(word: &str) -> bool {
 }
 
 /// Sizes, places of the header's words, answers, and refusals by their numbers in document 01.
-const CONSTANTS: [(&str, usize); 30] = [
+const CONSTANTS: [(&str, usize); 41] = [
     ("HS_HEADER_SIZE", hoursquall::HEADER_SIZE),
     ("HS_FRAME_MAX", hoursquall::FRAME_MAX),
     ("HS_PIECE_MAX", hoursquall::PIECE_MAX),
     ("HS_MESSAGE_MAX", hoursquall::MESSAGE_MAX),
+    ("HS_RING_MIN", hoursquall::RING_MIN),
+    ("HS_RING_MAX", hoursquall::RING_MAX),
+    ("HS_NOTICE_HEADER_SIZE", hoursquall::NOTICE_HEADER_SIZE),
+    ("HS_NOTICE_MAX", hoursquall::NOTICE_MAX),
     ("HS_HEADER_INDEX", 0),
     ("HS_HEADER_ID", 1),
     ("HS_HEADER_SENDER", 2),
@@ -74,6 +80,7 @@ const CONSTANTS: [(&str, usize); 30] = [
     ("HS_HEADER_WORDS", 6),
     ("HS_STATE_NUMBERS", 7),
     ("HS_WORDS", 4),
+    ("HS_POSITIONS", 2),
     ("HS_OK", 0),
     ("HS_MORE", 0),
     ("HS_DELIVERED", 100),
@@ -91,6 +98,12 @@ const CONSTANTS: [(&str, usize); 30] = [
     ("HS_REFUSED_PIECE_SIZE", 12),
     ("HS_REFUSED_NO_FRAME", 13),
     ("HS_REFUSED_OUTPUT_SHORT", 14),
+    ("HS_REFUSED_BAD_RING", 20),
+    ("HS_REFUSED_EMPTY", 21),
+    ("HS_REFUSED_DAMAGED", 22),
+    ("HS_REFUSED_NOTICE_OUTPUT_SHORT", 23),
+    ("HS_REFUSED_NOTICE_LONG", 24),
+    ("HS_REFUSED_FULL", 25),
 ];
 
 #[test]

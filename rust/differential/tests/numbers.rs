@@ -1,9 +1,12 @@
-//! The specification's own numbers for frames, reassembly and sums, on the library and on the reference.
+//! The specification's own numbers for frames, reassembly, notices and sums, on the library and on
+//! the reference.
 
 use differential::frames::{library_frames, reference_frames, Frames};
+use differential::notice;
 use differential::random::Random;
 use differential::reassembly::Machine;
 use hoursquall::{Envelope, Verdict};
+use reference::notice::Positions;
 
 /// What is checked, of either implementation.
 struct Implementation {
@@ -79,6 +82,21 @@ fn message_too_long() {
         let frames = (implementation.frames)(&ENVELOPE, &[0xA5; 4097], 232);
         assert_eq!(frames, Err(10), "{name}");
     }
+}
+
+/// This machine, too, compares the two implementations.
+#[test]
+fn ring_of_sixteen() {
+    let empty = Positions { read: 0, write: 0 };
+    let mut machine = notice::Machine::new(&mut Random::new(71), &[0xA5; 16], empty);
+    assert_eq!(machine.post(1, &[9; 8]), Err(25));
+    assert_eq!(machine.post(1, &[9; 7]), Ok(()));
+    assert_eq!(machine.positions(), Positions { read: 0, write: 15 });
+    assert_eq!(machine.take(&[0; 7]).map(|notice| notice.id), Ok(1));
+    assert_eq!(machine.post(0x0403_0201, &[5, 6]), Ok(()));
+    assert_eq!(machine.ring()[15], 1);
+    assert_eq!(machine.ring()[..9], [2, 3, 4, 2, 0, 0, 0, 5, 6]);
+    assert_eq!(machine.positions(), Positions { read: 15, write: 9 });
 }
 
 #[test]

@@ -1,4 +1,5 @@
-//! Message frames, their reassembly and table sums: safe wrappers over the proved static library.
+//! Message frames, their reassembly, the notice ring and table sums: safe wrappers over the proved
+//! static library.
 //!
 //! ```
 //! use hoursquall::{count, data, parse, write, Envelope, FRAME_MAX};
@@ -17,9 +18,11 @@
 //! # Ok::<(), hoursquall::Refusal>(())
 //! ```
 
+mod notice;
 pub mod raw;
 mod reassembly;
 
+pub use notice::{Notice, Positions};
 pub use reassembly::{Reassembly, Verdict, Words};
 
 /// Bytes of a frame's header.
@@ -30,6 +33,14 @@ pub const FRAME_MAX: usize = 256;
 pub const PIECE_MAX: usize = 232;
 /// Bytes that a message has at most.
 pub const MESSAGE_MAX: usize = 4096;
+/// Bytes that a ring has at least.
+pub const RING_MIN: usize = 16;
+/// Bytes that a ring has at most.
+pub const RING_MAX: usize = 65_536;
+/// Bytes of a notice's header.
+pub const NOTICE_HEADER_SIZE: usize = 8;
+/// Bytes of data that a notice has at most.
+pub const NOTICE_MAX: usize = 1024;
 
 /// A refusal's number in the specification.
 pub type Refusal = u32;

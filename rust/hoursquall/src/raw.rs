@@ -38,4 +38,23 @@ extern "C" {
         buffer_len: usize,
         words: *mut [u32; 4],
     ) -> u32;
+
+    pub fn hs_notice_post(
+        ring: *mut u8,
+        ring_len: usize,
+        positions: *mut [usize; 2],
+        id: u32,
+        data: *const u8,
+        data_len: usize,
+    ) -> u32;
+
+    pub fn hs_notice_take(
+        ring: *const u8,
+        ring_len: usize,
+        positions: *mut [usize; 2],
+        out: *mut u8,
+        out_len: usize,
+        id: *mut u32,
+        data_len: *mut usize,
+    ) -> u32;
 }

@@ -4,5 +4,6 @@
 //! definitions, and it prefers the obvious to the fast.
 
 pub mod frame;
+pub mod notice;
 pub mod reassembly;
 pub mod sum;

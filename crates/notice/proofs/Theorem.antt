@@ -1,0 +1,125 @@
+-- The ring is a queue, and what is posted is taken: whole lists of operations, by the relation that each operation keeps.
+-- Assumes nothing.
+use Prim.Native.Nat.{ℕ, _-_, _<_}
+use mathlib.Core.Bool.{Bool, true, false}
+use mathlib.Core.Path.{_≡_, refl, sym, ap, ap₂, subst, _∙_}
+use mathlib.Core.List.{List, [], _∷_, _++_, append-assoc, append-nil}
+use native.Mathlib.Omega.{arith}
+use lib.Dec.{ltb}
+use lib.ListN.{length, drop}
+use lib.ListN as ListN
+use lib.Seq.{take-at}
+use Rattle.notice.specs.Ring.{dataMax, waiting, turned}
+use Rattle.notice.specs.Queue.{Notice, Operation, post, take, Words, run, end, Ring, ringStep, size, sizes, queueStep, flat, wentIn, cameOut, allIn, allOut}
+use Rattle.notice.specs.Statements.{Capacity, empty, RingIsQueue, PostedIsTaken, AllTaken}
+use Rattle.notice.proofs.Answers.{waits-between}
+use Rattle.notice.proofs.Queue.{length-flat, moved-none, Holds, Keeps, waits, post-keeps, take-keeps}
+
+first-word : (op : Operation) (ops : List Operation) → Words (op ∷ ops) → Words (op ∷ [])
+first-word (post n) ops w = (w .0, tt)
+first-word (take out) ops w = tt
+
+other-words : (op : Operation) (ops : List Operation) → Words (op ∷ ops) → Words ops
+other-words (post n) ops w = w .1
+other-words (take out) ops w = w
+
+keeps : (r : Ring) (q : List Notice) (op : Operation) → Holds r q → Words (op ∷ []) → Keeps r (ringStep r op) (queueStep (length (r .bytes)) q op)
+keeps r q (post n) h w = post-keeps r q h n (w .0)
+keeps r q (take out) h w = take-keeps r q h out
+
+-- a list of operations is seen alike on both, and at the end the relation still holds
+record Alike (r : Ring) (q : List Notice) (ops : List Operation) : Type 0 where
+  seen : run ringStep r ops ≡ run (queueStep (length (r .bytes))) q ops
+  holds : Holds (end ringStep r ops) (end (queueStep (length (r .bytes))) q ops)
+  length-kept : length (end ringStep r ops .bytes) ≡ length (r .bytes)
+
+alike : (r : Ring) (q : List Notice) (ops : List Operation) → Holds r q → Words ops → Alike r q ops
+unfolding run end
+alike r q [] h w = record { seen = refl; holds = h; length-kept = refl }
+alike r q (op ∷ ops) h w =
+    let one = keeps r q op h (first-word op ops w) in
+    let next = queueStep (length (r .bytes)) q op .next in
+    let others = alike (ringStep r op .next) next ops (one .holds) (other-words op ops w) in
+    record {
+      seen = ap₂ _∷_ (one .seen) (others .seen ∙ ap (λ c. run (queueStep c) next ops) (one .length-kept));
+      holds = subst (λ c. Holds (end ringStep (ringStep r op .next) ops) (end (queueStep c) next ops)) (one .length-kept) (others .holds);
+      length-kept = others .length-kept ∙ one .length-kept;
+    }
+
+-- the queue alone: what waits and goes in is what comes out and what is left
+one-in-order : (c : ℕ) (q : List Notice) (op : Operation)
+    → q ++ wentIn op (queueStep c q op .seen) ≡ cameOut (queueStep c q op .seen) ++ queueStep c q op .next
+one-in-order c q (post n) = go (ltb dataMax (length (n .body))) refl (ltb (c - 1 - sizes q) (size n)) refl
+  where
+    go : (x : Bool) → ltb dataMax (length (n .body)) ≡ x → (y : Bool) → ltb (c - 1 - sizes q) (size n) ≡ y
+        → q ++ wentIn (post n) (queueStep c q (post n) .seen) ≡ cameOut (queueStep c q (post n) .seen) ++ queueStep c q (post n) .next
+    go true e y f = rw e (append-nil q)
+    go false e true f = rw (e, f) (append-nil q)
+    go false e false f = rw (e, f)
+one-in-order c [] (take out) = refl
+one-in-order c (n ∷ q) (take out) = go (ltb (length out) (length (n .body))) refl
+  where
+    go : (x : Bool) → ltb (length out) (length (n .body)) ≡ x
+        → (n ∷ q) ++ wentIn (take out) (queueStep c (n ∷ q) (take out) .seen) ≡ cameOut (queueStep c (n ∷ q) (take out) .seen) ++ queueStep c (n ∷ q) (take out) .next
+    go true e = rw e (append-nil (n ∷ q))
+    go false e =
+        let body-is = take-at (n .body) (drop (length (n .body)) out) (length (n .body)) refl in
+        rw e (append-nil (n ∷ q) ∙ ap (λ (b : List ℕ). let m : Notice = record { id = n .id; body = b } in m ∷ q) (sym body-is))
+
+in-order : (c : ℕ) (q : List Notice) (ops : List Operation)
+    → q ++ allIn ops (run (queueStep c) q ops) ≡ allOut (run (queueStep c) q ops) ++ end (queueStep c) q ops
+unfolding run end allIn allOut
+in-order c q [] = append-nil q
+in-order c q (op ∷ ops) =
+    let seen = queueStep c q op .seen in
+    let next = queueStep c q op .next in
+    let others = run (queueStep c) next ops in
+    sym (append-assoc q (wentIn op seen) (allIn ops others))
+    ∙ ap (λ l. l ++ allIn ops others) (one-in-order c q op)
+    ∙ append-assoc (cameOut seen) next (allIn ops others)
+    ∙ ap (λ l. cameOut seen ++ l) (in-order c next ops)
+    ∙ sym (append-assoc (cameOut seen) (allOut others) (end (queueStep c) next ops))
+
+module _ (ring : List ℕ) (p : ℕ) (ops : List Operation) (legal : Capacity (length ring)) (below : p < length ring) (w : Words ops) where
+  from-empty : Alike (empty p ring) [] ops
+  unfolding sizes flat
+  from-empty =
+      alike (empty p ring) [] ops
+      (record {
+        legal = legal;
+        read = below;
+        room = omega arith;
+        write = sym (moved-none (length ring) p below);
+        stands = refl;
+        fit = tt;
+      })
+      w
+
+pub ring-is-queue : RingIsQueue
+ring-is-queue ring p ops legal below w = from-empty ring p ops legal below w .seen
+
+pub posted-is-taken : PostedIsTaken
+posted-is-taken ring p ops legal below w =
+    let both = from-empty ring p ops legal below w in
+    let left = end (queueStep (length ring)) [] ops in
+    let final = end ringStep (empty p ring) ops in
+    record {
+      in-order = rw (both .seen) (in-order (length ring) [] ops);
+      waits = ap (λ c. waiting c (final .at)) (sym (both .length-kept)) ∙ waits final left (both .holds) ∙ sym (length-flat left);
+      stands = ap (λ k. ListN.take k (turned (final .at .read) (final .bytes))) (length-flat left) ∙ both .holds .stands;
+    }
+
+none-left : (q : List Notice) → sizes q ≡ 0 → q ≡ []
+unfolding sizes
+none-left [] e = refl
+none-left (n ∷ q) e = absurd (omega arith)
+
+pub all-taken : AllTaken
+all-taken ring p ops legal below w equal =
+    let left = end (queueStep (length ring)) [] ops in
+    let final = end ringStep (empty p ring) ops in
+    let known = posted-is-taken ring p ops legal below w in
+    let none = sym (length-flat left) ∙ sym (known .waits) ∙ waits-between (length ring) (final .at) (omega arith) ∙ (let e : final .at .write - final .at .read ≡ 0 = omega arith in e) in
+    known .in-order
+    ∙ ap (λ l. allOut (run ringStep (empty p ring) ops) ++ l) (none-left left none)
+    ∙ append-nil (allOut (run ringStep (empty p ring) ops))

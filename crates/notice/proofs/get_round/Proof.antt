@@ -1,0 +1,76 @@
+-- `notice::get_round` meets its contract: a copy from the end of the ring, and where that is not enough one from its start.
+-- Assumes nothing.
+use Prim.Native.Nat.{ℕ, _-_}
+use mathlib.Core.Path.{ap, _∙_}
+use mathlib.Core.List.{List, _++_}
+use lib.ListN.{length, take}
+use Rattle.le.specs.Copy.{copied}
+use Rattle.le.proofs.Parts.{rest, put-rest}
+use Rattle.notice.proofs.Turning.{get-end, get-parts}
+use borrow.Author.Needs.{needs}
+use Rattle.notice.proofs.get_round.Statement.{statement}
+use Rattle.notice.proofs.get_round.Tie as tie
+
+sub-room : tie.Need-sub-room
+sub-room c = search needs
+
+tail-requires : tie.Need-tail-requires
+tail-requires c κs = search needs
+
+copy-requires : tie.Need-copy-requires
+copy-requires c κs = search needs
+
+sub-copy : tie.Need-sub-copy
+sub-copy c = search needs
+
+part-copy-start : tie.Need-part-copy-start
+part-copy-start c = search needs
+
+part-copy-end : tie.Need-part-copy-end
+part-copy-end c = search needs
+
+copy-requires-2 : tie.Need-copy-requires-2
+copy-requires-2 c κs = search needs
+
+same-length : tie.Need-same-length
+same-length c = search needs
+
+returns : tie.Need-returns
+returns c =
+    let start = c .before .before .before .before .before .before .before .before .before .before .before .before in
+    let ring = start .args .ring .now in
+    let at = start .args .at in
+    let out = start .args .out .now in
+    let room = length ring - at in
+    let first = c .before .before .before .before .before .before .before .copy .last .1 .0 in
+    let first-is = c .before .before .before .before .before .before .before .copy .ensures ∙ ap (λ (l : List ℕ). copied l out) (c .before .before .before .before .before .before .before .before .before .tail .ensures) in
+    let part-is = c .before .before .copy2 .ensures ∙ ap (copied ring) (rest first room) in
+    put-rest first _ room
+    ∙ ap (λ (l : List ℕ). take room first ++ l) part-is
+    ∙ get-parts ring at out first (start .pre .0) (search needs) (start .pre .1) first-is
+
+same-length-2 : tie.Need-same-length-2
+same-length-2 c = search needs
+
+returns-2 : tie.Need-returns-2
+returns-2 c =
+    let start = c .before .before .before .before .before .before .before .before in
+    let out = start .args .out .now in
+    let first-is = c .before .before .before .copy .ensures ∙ ap (λ (l : List ℕ). copied l out) (c .before .before .before .before .before .tail .ensures) in
+    first-is ∙ get-end (start .args .ring .now) (start .args .at) out (search needs)
+
+pub get-round-spec : {M : Type 1} → statement M
+get-round-spec =
+    tie.close
+    (tie.spec
+    sub-room
+    tail-requires
+    copy-requires
+    sub-copy
+    part-copy-start
+    part-copy-end
+    copy-requires-2
+    same-length
+    returns
+    same-length-2
+    returns-2)

@@ -1,0 +1,202 @@
+-- `notice::take` meets its contract: at each `return` the tests that led there say which answer it is.
+-- Assumes nothing.
+use Prim.Native.Nat.{ℕ, _+_, _-_, _≤_, _<_}
+use mathlib.Core.Bool.{false}
+use mathlib.Core.Path.{_≡_, refl, sym, ap, _∙_}
+use mathlib.Core.List.{List, _++_}
+use native.Mathlib.Nat.{le-of-lt}
+use native.Mathlib.Omega.{arith}
+use borrow.Author.Tests.{eq-eqb, ne-eqb}
+use lib.ListN.{length, drop, length-take, length-drop}
+use lib.ListN as ListN
+use lib.Seq.{take-append-le}
+use Rattle.notice.specs.Ring.{dataMax, headerSize, badRing, waiting, isEmpty, moved, turned, lengthAt}
+use Rattle.notice.specs.declared.Taken.the-variants.{Notice}
+use Rattle.notice.proofs.Turning.{moved-below, length-turned, turned-moved}
+use Rattle.notice.proofs.Answers.{Good, good, waits-less, take-bad, take-empty, take-few, take-over, take-beyond, take-short, take-notice}
+use borrow.Author.Needs.{needs}
+use Rattle.notice.proofs.take.Statement.{statement}
+use Rattle.notice.proofs.take.Tie as tie
+
+-- past the test of the ring: the function's entry, and what is known of the ring
+abbrev start : tie.Else1 → tie.Start
+start c = c .before .before .before .before
+
+ok : (c : tie.Else1) → badRing (length (start c .args .ring .now)) (start c .args .at) ≡ false
+ok c = sym (c .before .is-bad .ensures) ∙ c .if1 .left
+
+legal : (c : tie.Else1) → Good (length (start c .args .ring .now)) (start c .args .at)
+legal c = good _ _ (ok c)
+
+-- where the header is read: something waits, and it is a header at least
+abbrev at-legal : tie.After-read-head → tie.Else1
+at-legal c = c .before .before .before .before .before
+
+some-wait : (c : tie.After-read-head) → isEmpty (start (at-legal c) .args .at) ≡ false
+some-wait c = ne-eqb _ _ (c .before .before .before .if2 .left)
+
+head-waits : (c : tie.After-read-head) → headerSize ≤ waiting (length (start (at-legal c) .args .ring .now)) (start (at-legal c) .args .at)
+head-waits c = rw (← c .before .before .count-waiting .ensures) (c .before .if3 .left)
+
+-- the Data Length is legal, and so much waits
+small : (c : tie.Else4) → lengthAt (start (at-legal (c .before)) .args .ring .now) (start (at-legal (c .before)) .args .at) ≤ dataMax
+small c = rw (← c .before .read-head .ensures .1) (c .if4 .left)
+
+whole : (c : tie.Else5)
+    → lengthAt (start (at-legal (c .before .before)) .args .ring .now) (start (at-legal (c .before .before)) .args .at)
+    ≤ waiting (length (start (at-legal (c .before .before)) .args .ring .now)) (start (at-legal (c .before .before)) .args .at) - headerSize
+whole c = rw (← c .before .before .before .before .count-waiting .ensures, ← c .before .before .read-head .ensures .1) (c .if5 .left)
+
+room-of : {n m waits size : ℕ} → n ≡ m → m ≤ waits - headerSize → headerSize ≤ waits → waits < size → headerSize + n ≤ size
+room-of e h l w = omega arith
+
+within : (c : tie.Else6) → headerSize + c .before .before .before .read-head .result .n ≤ length (start (at-legal (c .before .before .before)) .args .ring .now)
+within c =
+    let head = c .before .before .before in
+    let known = legal (at-legal head) in
+    room-of (head .read-head .ensures .1) (whole (c .before)) (head-waits head) (waits-less _ _ (known .read) (known .write))
+
+-- the lent part of the output
+part-length : (n : ℕ) (out : List ℕ) → n ≤ length out → length (ListN.take n out) ≡ n
+part-length n out h = simp length-take (omega arith)
+
+part-fits : (n : ℕ) (out ring : List ℕ) → headerSize + n ≤ length ring → length (ListN.take n out) ≤ length ring
+part-fits n out ring h = simp length-take (omega arith)
+
+notice-same : {id j n m read r : ℕ} (write : ℕ) → id ≡ j → n ≡ m → read ≡ r
+    → Notice id n (record { read = read; write = write }) ≡ Notice j m (record { read = r; write = write })
+notice-same write e f g = cc
+
+-- what is read from behind the header is the data
+data-read : (ring : List ℕ) (read n behind : ℕ) → read ≤ length ring → headerSize + n ≤ length ring → behind ≡ moved (length ring) read headerSize
+    → ListN.take n (turned behind ring) ≡ ListN.take n (drop headerSize (turned read ring))
+data-read ring read n behind h l behind-is =
+    let seen = turned read ring in
+    let room : n ≤ length (drop headerSize seen) = rw (length-drop headerSize seen, length-turned read ring) (omega arith) in
+    ap (λ (at : ℕ). ListN.take n (turned at ring)) behind-is
+    ∙ ap (ListN.take n) (turned-moved read headerSize ring h (omega arith))
+    ∙ take-append-le n (drop headerSize seen) (ListN.take headerSize seen) room
+
+is-bad-requires : tie.Need-is-bad-requires
+is-bad-requires c κs = search needs
+
+returns : tie.Need-returns
+returns c =
+    let args = c .before .before .before .before .args in
+    let bad = sym (c .before .is-bad .ensures) ∙ c .if1 .taken in
+    (sym (take-bad (args .ring .now) (args .at) (args .out .now) bad), refl)
+
+returns-2 : tie.Need-returns-2
+returns-2 c =
+    let args = start (c .before .before) .args in
+    (sym (take-empty (args .ring .now) (args .at) (args .out .now) (ok (c .before .before)) (eq-eqb _ _ (c .if2 .taken))), refl)
+
+count-waiting-requires : tie.Need-count-waiting-requires
+count-waiting-requires c κs =
+    let known = legal (c .before .before) in (known .read, known .write, known .most)
+
+returns-3 : tie.Need-returns-3
+returns-3 c =
+    let args = start (c .before .before .before .before) .args in
+    let few : waiting (length (args .ring .now)) (args .at) < headerSize = rw (← c .before .count-waiting .ensures) (c .if3 .taken) in
+    (sym (take-few (args .ring .now) (args .at) (args .out .now) (ok (c .before .before .before .before)) (ne-eqb _ _ (c .before .before .if2 .left)) few), refl)
+
+read-head-requires : tie.Need-read-head-requires
+read-head-requires c κs =
+    let known = legal (c .before .before .before .before) in (le-of-lt (known .read), omega (arith, known .least))
+
+returns-4 : tie.Need-returns-4
+returns-4 c =
+    let args = start (at-legal (c .before)) .args in
+    let over : dataMax < lengthAt (args .ring .now) (args .at) = rw (← c .before .read-head .ensures .1) (c .if4 .taken) in
+    (sym (take-over (args .ring .now) (args .at) (args .out .now) (ok (at-legal (c .before))) (some-wait (c .before)) (head-waits (c .before)) over), refl)
+
+returns-5 : tie.Need-returns-5
+returns-5 c =
+    let args = start (at-legal (c .before .before)) .args in
+    let beyond : waiting (length (args .ring .now)) (args .at) - headerSize < lengthAt (args .ring .now) (args .at) =
+    rw (← c .before .before .before .before .count-waiting .ensures, ← c .before .before .read-head .ensures .1) (c .if5 .taken) in
+    (sym (take-beyond (args .ring .now) (args .at) (args .out .now) (ok (at-legal (c .before .before))) (some-wait (c .before .before)) (head-waits (c .before .before)) (small (c .before)) beyond), refl)
+
+returns-6 : tie.Need-returns-6
+returns-6 c =
+    let head = c .before .before .before in
+    let args = start (at-legal head) .args in
+    let short : length (args .out .now) < lengthAt (args .ring .now) (args .at) = rw (← head .read-head .ensures .1) (c .if6 .taken) in
+    (sym (take-short (args .ring .now) (args .at) (args .out .now) (ok (at-legal head)) (some-wait head) (head-waits head) (small (c .before .before)) (whole (c .before)) short), refl)
+
+move-on-requires : tie.Need-move-on-requires
+move-on-requires c κs =
+    let known = legal (at-legal (c .before .before .before)) in (known .read, omega (arith, known .least), known .most)
+
+slice-relend-prefix-get-round : tie.Need-slice-relend-prefix-get-round
+slice-relend-prefix-get-round c =
+    c .before .if6 .left
+
+slice-aggregate-get-round : tie.Need-slice-aggregate-get-round
+slice-aggregate-get-round c =
+    let at-fit = c .before .before in sym (part-length _ (start (at-legal (at-fit .before .before .before)) .args .out .now) (at-fit .if6 .left))
+
+get-round-requires : tie.Need-get-round-requires
+get-round-requires c κs =
+    let at-fit = c .before .before in
+    let head = at-fit .before .before .before in
+    let known = legal (at-legal head) in
+    let args = start (at-legal head) .args in
+    let inside : c .before .move-on .result < length (args .ring .now) = rw (c .before .move-on .ensures) (moved-below _ _ 8 (known .read) (omega (arith, known .least))) in
+    (le-of-lt inside, part-fits _ (args .out .now) (args .ring .now) (within at-fit))
+
+add-move-on : tie.Need-add-move-on
+add-move-on c = search needs
+
+move-on-requires-2 : tie.Need-move-on-requires-2
+move-on-requires-2 c κs =
+    let at-fit = c .before .before .before .before .before in
+    let known = legal (at-legal (at-fit .before .before .before)) in
+    (known .read, within at-fit, known .most)
+
+same-length : tie.Need-same-length
+same-length c = search needs
+
+returns-7 : tie.Need-returns-7
+returns-7 c =
+    let at-fit = c .before .before .before .before .before .before in
+    let head = at-fit .before .before .before in
+    let args = start (at-legal head) .args in
+    let ring = args .ring .now in
+    let out = args .out .now in
+    let n = head .read-head .result .n in
+    let known = legal (at-legal head) in
+    let id-is = head .read-head .ensures .0 in
+    let n-is = head .read-head .ensures .1 in
+    let room : lengthAt ring (args .at) ≤ length out = rw (← n-is) (at-fit .if6 .left) in
+    let answer = take-notice ring (args .at) out (ok (at-legal head)) (some-wait head) (head-waits head) (small (at-fit .before .before)) (whole (at-fit .before)) room in
+    let next = c .move-on2 .ensures ∙ ap (λ (k : ℕ). moved (length ring) (args .at .read) (headerSize + k)) n-is in
+    let got = c .before .before .before .get-round .ensures in
+    let part = part-length n out (at-fit .if6 .left) in (
+      notice-same (args .at .write) id-is n-is next ∙ sym answer,
+      ap (λ (l : List ℕ). l ++ drop n out)
+          (got ∙ ap (λ (k : ℕ). ListN.take k (turned (c .before .before .before .before .before .move-on .result) ring)) part ∙ data-read ring (args .at .read) n _ (le-of-lt (known .read)) (within at-fit) (c .before .before .before .before .before .move-on .ensures)),
+    )
+
+pub take-spec : {M : Type 1} → statement M
+take-spec =
+    tie.close
+    (tie.spec
+    is-bad-requires
+    returns
+    returns-2
+    count-waiting-requires
+    returns-3
+    read-head-requires
+    returns-4
+    returns-5
+    returns-6
+    move-on-requires
+    slice-relend-prefix-get-round
+    slice-aggregate-get-round
+    get-round-requires
+    add-move-on
+    move-on-requires-2
+    same-length
+    returns-7)
