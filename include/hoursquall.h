@@ -74,7 +74,7 @@ enum {
 enum {
     HS_REFUSED_BAD_RING = 20,            /* ring_len or a position is not legal */
     HS_REFUSED_EMPTY = 21,               /* nothing waits */
-    HS_REFUSED_DAMAGED = 22,             /* what waits is no notice */
+    HS_REFUSED_DAMAGED = 22,             /* no whole notice waits */
     HS_REFUSED_NOTICE_OUTPUT_SHORT = 23, /* output shorter than the data */
     HS_REFUSED_NOTICE_LONG = 24,         /* data over HS_NOTICE_MAX bytes */
     HS_REFUSED_FULL = 25,                /* the notice does not fit what is free */
@@ -123,8 +123,9 @@ uint32_t hs_reassembly_step(uint64_t state[HS_STATE_NUMBERS], const uint8_t *fra
 
 /* Posts a notice to a ring, behind those that wait: id and the data's length, as
  * little-endian 32-bit words, then the data, running past the ring's last byte to its
- * first. HS_OK: only the notice's bytes of ring and positions[1] are changed. Refusals
- * 20, 24, 25: ring and positions are unchanged.
+ * first. HS_OK: positions[1] has moved behind the notice; only it and the notice's
+ * bytes of ring are changed. 25: HS_NOTICE_HEADER_SIZE + data_len is over ring_len - 1
+ * less what waits. Refusals 20, 24, 25: ring and positions are unchanged.
  *
  * positions[0] is read, where the oldest notice starts; positions[1] is write, where
  * the next one will: offsets below ring_len. Equal means empty, so two zeros are an

@@ -165,7 +165,8 @@ pub extern "C" fn hs_notice_post(
     }
 }
 
-// Takes the oldest notice of a ring; its data goes to the start of `out`, `extent` receives the data's length.
+// Takes the oldest notice of a ring, with `positions` likewise; its data goes to the start of `out`, `id` and
+// `extent` receive its Notify ID and the data's length.
 #[no_mangle]
 pub extern "C" fn hs_notice_take(
     ring: &[u8],

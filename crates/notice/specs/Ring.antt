@@ -65,7 +65,7 @@ stored at bs ring = turned (length ring - at) (bs ++ drop (length bs) (turned at
 abbrev pub noticeOf : ℕ → List ℕ → List ℕ
 noticeOf id body = bytes 4 id ++ (bytes 4 (length body) ++ body)
 
--- what a post answers
+-- what a post answers; "Only whole notices move a position."
 unfoldable pub posted : List ℕ → Positions → ℕ → List ℕ → Posted
 posted ring at id body =
     cond (badRing (length ring) at) (NotPosted BadRing)
