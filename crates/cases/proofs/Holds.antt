@@ -3,6 +3,7 @@
 use mathlib.Core.Path.{refl}
 use Rattle.le.specs.Word.{word, bytes}
 use Rattle.le.specs.Sum.{total, totalOf, sum}
+use Rattle.le.specs.Compare.{same}
 use Rattle.frame.specs.Layout.{headerBytes}
 use Rattle.frame.specs.Reading.{parsed}
 use Rattle.frame.specs.Writing.{countOf, counted, written}
@@ -10,8 +11,10 @@ use Rattle.reassembly.specs.Step.{consistent, sameWords, accept, begin, proceed
 use Rattle.reassembly.specs.Run.{verdicts}
 use Rattle.notice.specs.Ring.{badRing, waiting, moved, posted, takenOf}
 use Rattle.notice.specs.Queue.{run, end}
-use Rattle.cases.specs.Cases.{same, isCount, isLength, holds, allHold, starred, StarredHold}
+use Rattle.ubios.specs.Layout.{upToZero}
+use Rattle.ubios.specs.Checks.{outside, badSize, judged, checked, rootJudged, rootChecked}
+use Rattle.cases.specs.Cases.{isCount, isLength, holds, allHold, starred, StarredHold}
 
 pub starred-hold : StarredHold
-unfolding word bytes total totalOf sum headerBytes parsed countOf counted written consistent sameWords accept begin proceed received stepOf verdicts badRing waiting moved posted takenOf run end same isCount isLength holds allHold starred
+unfolding word bytes total totalOf sum headerBytes parsed countOf counted written consistent sameWords accept begin proceed received stepOf verdicts badRing waiting moved posted takenOf run end upToZero outside badSize judged checked rootJudged rootChecked same isCount isLength holds allHold starred
 starred-hold = refl

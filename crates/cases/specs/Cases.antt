@@ -1,14 +1,15 @@
 -- Document 01, "Numbers to check by": the starred numbers of what is built so far, as one table and one statement over it. Each row is a
--- question to the definitions that the code is proved to meet, and the answer that the document gives. Those of the UBIOS root and the SFI tables join
--- with their crates.
+-- question to the definitions that the code is proved to meet, and the answer that the document gives. That of the SFI tables joins with their crate.
 -- Assumes nothing.
 use Prim.Native.Nat.{ℕ, _+_}
 use mathlib.Core.Bool.{Bool, true, false, _&&_}
 use mathlib.Core.Path.{_≡_}
-use mathlib.Core.List.{List, [], _∷_, map}
+use mathlib.Core.List.{List, [], _∷_, _++_, map}
 use lib.Dec.{eqb}
 use lib.ListN.{length, take, replicate}
+use Rattle.le.specs.Word.{bytes}
 use Rattle.le.specs.Sum.{sum}
+use Rattle.le.specs.Compare.{same}
 use Rattle.frame.specs.Writing.{counted, written, frameAt, outputAfter}
 use Rattle.frame.specs.declared.Envelope.{Envelope}
 use Rattle.reassembly.specs.Step.{numberOf}
@@ -19,6 +20,11 @@ use Rattle.reassembly.specs.declared.Verdict.the-variants.{More, Delivered, Ref
 use Rattle.notice.specs.Ring as Ring
 use Rattle.notice.specs.Queue.{Notice, Operation, post, take as takeTo, Seen, accepted, rejected, given, nothing, run, end, ringStep}
 use Rattle.notice.specs.Statements.{empty}
+use Rattle.ubios.specs.Layout.{rootName}
+use Rattle.ubios.specs.Checks as Checks
+use Rattle.ubios.specs.Statements.{headOf, checksumOf}
+use Rattle.ubios.specs.declared.RootChecked.{RootChecked}
+use Rattle.ubios.specs.declared.RootChecked.the-variants.{Passed as RootPassed, Refused as RootRefused}
 use Rattle.frame.specs.declared.write.Counted.{Counted}
 use Rattle.frame.specs.declared.write.Counted.the-variants.{Frames, Refused as Uncounted}
 use Rattle.frame.specs.declared.write.Written.{Written}
@@ -40,13 +46,10 @@ pub data Case : Type 0 where
   sees : List Operation → List ℕ → Case
   -- the read and the write position after them, and the ring's bytes
   leaves : List Operation → ℕ → ℕ → List ℕ → Case
-
--- the same list of numbers
-unfoldable pub same : List ℕ → List ℕ → Bool
-same [] [] = true
-same [] (y ∷ ys) = false
-same (x ∷ xs) [] = false
-same (x ∷ xs) (y ∷ ys) = eqb x y && same xs ys
+  -- the Checksum of a UBIOS table with this head and body
+  checksums : List ℕ → List ℕ → ℕ → Case
+  -- the refusal of these bytes as a UBIOS root, which stands at address 4,096 where memory starts; 0 where it passes
+  roots : List ℕ → ℕ → Case
 
 unfoldable pub isCount : Counted → ℕ → Bool
 isCount (Frames n) expected = eqb n expected
@@ -67,12 +70,16 @@ seenRefusal (rejected reason) = Ring.numberOf reason
 seenRefusal (given id n out) = 0
 seenRefusal (nothing reason out) = Ring.numberOf reason
 
+abbrev pub rootRefusal : RootChecked → ℕ
+rootRefusal (RootPassed root) = 0
+rootRefusal (RootRefused reason) = Checks.numberOf reason
+
 -- 256 zero bytes
 abbrev pub output : List ℕ
 output = replicate 256 0
 
 unfoldable pub holds : Case → Bool
-unfolding same isCount isLength
+unfolding isCount isLength
 holds (sums k s expected) = eqb (sum k s) expected
 holds (counts total size expected) = isCount (counted total size) expected
 holds (frames e message size index expected) = isLength (written e message size index output) expected
@@ -85,6 +92,8 @@ holds (leaves ops read write expected) =
     eqb (end ringStep (empty 0 (replicate 16 0)) ops .at .read) read
     && (eqb (end ringStep (empty 0 (replicate 16 0)) ops .at .write) write
     && same (end ringStep (empty 0 (replicate 16 0)) ops .bytes) expected)
+holds (checksums head body expected) = eqb (checksumOf head body) expected
+holds (roots s expected) = eqb (rootRefusal (Checks.rootChecked 4096 s 4096)) expected
 
 unfoldable pub allHold : List Case → Bool
 unfolding holds
@@ -105,8 +114,12 @@ seven = record { id = 0x01020304; body = 1 ∷ 2 ∷ 3 ∷ 4 ∷ 5 ∷ 6 ∷ 7 �
 pub two : Notice
 two = record { id = 0x0A0B0C0D; body = 0xEE ∷ 0xFF ∷ [] }
 
+-- the head of a root with Total 40 and Version 1, all else 0
+pub rootHead : List ℕ
+rootHead = headOf (rootName ++ replicate 6 0) 40 0
+
 unfoldable pub starred : List Case
-unfolding envelope message seven two
+unfolding envelope message seven two rootHead
 starred =
     -- piece 2: three frames of 26, 26, 25 bytes
     counts 5 2 3
@@ -130,6 +143,9 @@ starred =
     ∷ sees (post seven ∷ takeTo (replicate 7 0) ∷ post two ∷ []) (0 ∷ 0 ∷ 0 ∷ [])
     ∷ leaves (post seven ∷ takeTo (replicate 7 0) ∷ post two ∷ []) 15 9
     (0x0C ∷ 0x0B ∷ 0x0A ∷ 2 ∷ 0 ∷ 0 ∷ 0 ∷ 0xEE ∷ 0xFF ∷ 2 ∷ 3 ∷ 4 ∷ 5 ∷ 6 ∷ 7 ∷ 0x0D ∷ [])
+    -- a root with Total 40, Version 1, all else 0 has Checksum 0x292EB69A
+    ∷ checksums rootHead (replicate 8 0) 0x292EB69A
+    ∷ roots (rootHead ++ (bytes 4 0x292EB69A ++ replicate 8 0)) 0
     -- used bytes 01 00 00 00 FF sum to 0x100
     ∷ sums 4 (1 ∷ 0 ∷ 0 ∷ 0 ∷ 0xFF ∷ []) 0x100
     ∷ []

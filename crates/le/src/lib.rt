@@ -1,11 +1,12 @@
-// Little-endian words, sums and copies over byte slices. Everything above reads bytes through this
+// Little-endian words, sums, comparison and copies over byte slices. Everything above reads bytes through this
 // crate, and knows it by its promises alone.
 pub mod sum;
 pub mod word;
 
 ghost use mathlib.Core.Path.{_≡_};
 ghost use Prim.Native.Nat.{min};
-ghost use lib.ListN.{drop};
+ghost use lib.ListN.{take, drop};
+ghost use Rattle.le.specs.Compare as Compare;
 ghost use Rattle.le.specs.Copy.{copied};
 
 // The slice from `at` on; empty where `at` is past its end.
@@ -13,6 +14,30 @@ pub fn tail(s: &[u8], at: usize) -> &[u8]
     ensures { λ r. ⌜ now r ≡ drop at (now (s .entry)) ⌝ }
 {
     if at < s.len() { &s[at..] } else { &s[..0] }
+}
+
+// The first n bytes of a slice; all of it where it has no more.
+pub fn head(s: &[u8], n: usize) -> &[u8]
+    ensures { λ r. ⌜ now r ≡ take n (now (s .entry)) ⌝ }
+{
+    if n < s.len() { &s[..n] } else { s }
+}
+
+// Whether two slices hold the same bytes.
+pub fn same(a: &[u8], b: &[u8]) -> bool
+    ensures { λ r. ⌜ r ≡ Compare.same (now (a .entry)) (now (b .entry)) ⌝ }
+{
+    if a.len() != b.len() {
+        return false;
+    }
+    let mut i = 0;
+    while i < a.len() {
+        if a[i] != b[i] {
+            return false;
+        }
+        i += 1;
+    }
+    true
 }
 
 fn least(a: usize, b: usize) -> usize

@@ -1,13 +1,14 @@
 -- The laws of a post and a take: one for each answer, with what leads there.
 -- Assumes nothing.
 use Prim.Native.Nat.{ℕ, _+_, _-_, _%_, _≤_, _<_}
-use mathlib.Core.Bool.{Bool, true, false, not, _||_}
+use mathlib.Core.Bool.{Bool, true, false, not}
 use mathlib.Core.Path.{_≡_, refl}
 use mathlib.Core.List.{List}
 use borrow.Author.Tests.{lt-ltb, le-ltb, lt-leb, le-leb, eq-eqb, ne-eqb, ltb-false, leb-true, leb-false}
 use native.Mathlib.Omega.{arith}
 use lib.Dec.{ltb, leb, eqb}
 use lib.ListN.{length}
+use Rattle.le.proofs.Tests.{neither}
 use Rattle.notice.specs.Ring.{dataMax, headerSize, badRing, waiting, isEmpty, free, moved, posted, idAt, lengthAt, takenOf}
 use Rattle.notice.specs.declared.Positions.{Positions}
 use Rattle.notice.specs.declared.Reason.the-variants.{BadRing, Empty, Damaged, OutputShort, DataLong, Full}
@@ -42,10 +43,6 @@ module _ (c : ℕ) (at : Positions) where
   pub by-write : 16 ≤ c → c ≤ 65536 → c % 8 ≡ 0 → at .read < c → badRing c at ≡ leb c (at .write)
   unfolding badRing
   by-write s l e h = rw (le-ltb c 16 s, le-ltb 65536 c l, eq-eqb (c % 8) 0 e, lt-leb c (at .read) h)
-
-neither : (a b : Bool) → a || b ≡ false → (a ≡ false) × (b ≡ false)
-neither true b e = absurd (let z : _≡_ {A = ℕ} 0 1 = cc in omega arith)
-neither false b e = (refl, e)
 
 pub good : (c : ℕ) (at : Positions) → badRing c at ≡ false → Good c at
 unfolding badRing

@@ -1,13 +1,13 @@
 -- The laws of the definitions that make up a step: one for each answer, with what leads there.
 -- Assumes nothing.
-use Prim.Native.Nat.{ℕ, suc, _+_, _-_, _≤_, _<_}
-use mathlib.Core.Bool.{Bool, true, false, not, _&&_}
-use mathlib.Core.Path.{_≡_, refl, sym, ap, _∙_}
+use Prim.Native.Nat.{ℕ, _+_, _-_, _≤_, _<_}
+use mathlib.Core.Bool.{true, false, not}
+use mathlib.Core.Path.{_≡_, refl}
 use mathlib.Core.List.{List}
 use borrow.Author.Tests.{lt-ltb, le-ltb, lt-leb, le-leb, eq-eqb, ne-eqb, leb-true, ltb-true}
-use native.Mathlib.Omega.{arith}
-use lib.Dec.{leb, ltb, eqb}
+use lib.Dec.{leb, ltb}
 use lib.ListN.{length}
+use Rattle.le.proofs.Tests.{both}
 use Rattle.frame.specs.Layout.{messageMax}
 use Rattle.frame.specs.Reading.{parsed, dataOf}
 use Rattle.frame.specs.declared.Header.{Header}
@@ -21,10 +21,6 @@ use Rattle.reassembly.specs.declared.Progress.{Progress}
 use Rattle.reassembly.specs.declared.State.{State}
 use Rattle.reassembly.specs.declared.State.the-variants.{Fresh, Open}
 use Rattle.reassembly.specs.declared.Reason.the-variants.{Unread, NothingOpen, OutOfOrder, OtherWords, NoData, TooMuchData, MessageLong, BadState}
-
--- what follows from an equation of two constructors
-pub apart : {A : Type 0} → _≡_ {A = ℕ} 0 1 → A
-apart z = absurd (omega arith)
 
 -- an answer and a buffer that are those of a step's law are those of the step
 pub as-in : (st law : Stepped) (answer : Answer) (buffer : List ℕ) → st ≡ law → answer ≡ law .answer → buffer ≡ law .buffer
@@ -71,10 +67,6 @@ module _ (p : Progress) (room : ℕ) where
               lt-ltb (p .filled) (p .words .total) less,
               le-leb (p .words .total) messageMax h,
             )
-
-pub both : (a b : Bool) → a && b ≡ true → (a ≡ true) × (b ≡ true)
-both true b e = (refl, e)
-both false b e = apart (cc)
 
 -- what is known of a consistent open state
 pub record Consistent (p : Progress) (room : ℕ) : Type 0 where

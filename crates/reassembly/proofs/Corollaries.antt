@@ -10,6 +10,7 @@ use native.Mathlib.Omega.{arith}
 use borrow.Author.Tests.{ltb-true, ltb-false, eqb-true, eqb-false, eq-eqb, le-leb, not-false}
 use lib.Dec.{ltb, eqb}
 use lib.ListN.{length, replicate}
+use Rattle.le.proofs.Tests.{apart}
 use Rattle.frame.specs.Layout.{messageMax, headerFor, frameOf}
 use Rattle.frame.specs.Reading as Reading
 use Rattle.frame.specs.Reading.{parsed, dataOf}
@@ -35,7 +36,7 @@ use Rattle.reassembly.specs.declared.Reason.{Reason}
 use Rattle.reassembly.specs.declared.Reason.the-variants.{Unread, NothingOpen, OutOfOrder, OtherWords, NoData, TooMuchData, MessageLong, BadState}
 use Rattle.reassembly.specs.declared.Verdict.{Verdict}
 use Rattle.reassembly.specs.declared.Verdict.the-variants.{Refused}
-use Rattle.reassembly.proofs.Answers.{apart, fresh, by-room, consistent-open, lacking, excess, data-taken, whole, not-whole, over-limit, over-buffer, begins, none-open, other-index, other-words, goes-on, bad-state, unread-frame, index-zero, index-more}
+use Rattle.reassembly.proofs.Answers.{fresh, by-room, consistent-open, lacking, excess, data-taken, whole, not-whole, over-limit, over-buffer, begins, none-open, other-index, other-words, goes-on, bad-state, unread-frame, index-zero, index-more}
 use Rattle.reassembly.proofs.Steps.{length-landed}
 use Rattle.reassembly.proofs.Theorem.{Ready, Continues, all-messages, demand-3}
 

@@ -2,7 +2,7 @@
 -- Assumes nothing.
 use Prim.Native.Nat.{ℕ, suc, _+_, _-_, _≤_, _<_}
 use mathlib.Core.Bool.{Bool, true, false, cond, not, _||_}
-use mathlib.Core.Path.{_≡_, refl, sym, ap, _∙_}
+use mathlib.Core.Path.{_≡_, refl, ap, _∙_}
 use mathlib.Core.List.{List, _++_, append-assoc}
 use borrow.Author.Tests.{eq-eqb, ne-eqb, eqb-true}
 use native.Mathlib.Omega.{arith}
@@ -10,6 +10,7 @@ use lib.Dec.{eqb, ltb}
 use lib.ListN.{length, take, drop, length-append, length-take, length-drop}
 use lib.Seq.{take-at, drop-at}
 use Rattle.le.specs.Word.{word}
+use Rattle.le.proofs.Tests.{apart}
 use Rattle.frame.specs.Layout.{headerSize, frameMax, pieceMax, messageMax, typeVersion, headerBytes, headerOf, headerFor, frameOf}
 use Rattle.frame.specs.Reading.{parsed, dataOf}
 use Rattle.frame.specs.Statements.{Fits}
@@ -29,7 +30,7 @@ use Rattle.reassembly.specs.declared.State.the-variants.{Fresh, Open}
 use Rattle.reassembly.specs.declared.Reason as R
 use Rattle.reassembly.specs.declared.Reason.the-variants.{Unread, NothingOpen, OutOfOrder}
 use Rattle.reassembly.specs.declared.Verdict.the-variants.{Refused}
-use Rattle.reassembly.proofs.Answers.{apart, data-taken, begins, none-open, other-index, goes-on, unread-frame, index-zero, index-more}
+use Rattle.reassembly.proofs.Answers.{data-taken, begins, none-open, other-index, goes-on, unread-frame, index-zero, index-more}
 
 -- a frame of which a condition 1 to 4 holds does not parse
 unread : (us : ℕ) (f : List ℕ) → PutIn us f → (reason : Reason) × (parsed us f ≡ Parsed.Refused reason)

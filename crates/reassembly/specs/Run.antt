@@ -6,7 +6,7 @@ use mathlib.Core.List.{List, [], _∷_}
 use mathlib.Core.Option.{Option, none, some}
 use lib.ListN.{take}
 use Rattle.frame.specs.declared.Words.{Words}
-use Rattle.reassembly.specs.Step.{Stepped, stepOf}
+use Rattle.reassembly.specs.Step.{stepOf}
 use Rattle.reassembly.specs.declared.State.{State}
 use Rattle.reassembly.specs.declared.Verdict.{Verdict}
 use Rattle.reassembly.specs.declared.Verdict.the-variants.{More, Delivered, Refused}

@@ -7,7 +7,7 @@ use mathlib.Core.List.{List}
 use native.Mathlib.Omega.{arith}
 use lib.ListN.{length}
 use Rattle.frame.specs.Layout.{frameOf}
-use Rattle.frame.specs.Writing.{countOf, counted, written, outputOf}
+use Rattle.frame.specs.Writing.{countOf, counted, outputOf}
 use Rattle.frame.specs.Helpers.{layAnswer}
 use Rattle.frame.specs.declared.write.Counted.the-variants.{Frames}
 use Rattle.frame.proofs.Counting.{Legal, counted-legal, starts-within, index-small}

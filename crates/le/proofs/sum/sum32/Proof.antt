@@ -1,8 +1,7 @@
 -- `le::sum::sum32` meets its contract. The loop's invariant: the sum so far and the sum of the rest are the sum of all, modulo 2^32.
 -- Assumes nothing.
 use Prim.Native.Nat.{_+_, _-_, _%_, _^_, _≤_, _<_}
-use mathlib.Core.Path.{_≡_, refl, sym, ap, _∙_}
-use native.Mathlib.Omega.{arith}
+use mathlib.Core.Path.{_≡_}
 use lib.Dec.{lit<}
 use lib.ListN.{length, drop}
 use Rattle.le.specs.Sum.{sum, totalOf}

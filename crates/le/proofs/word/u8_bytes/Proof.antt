@@ -5,7 +5,6 @@ use mathlib.Core.Path.{ap}
 use mathlib.Core.List.{[], _∷_}
 use native.Mathlib.Omega.{arith}
 use Rattle.le.specs.Word.{bytes}
-use borrow.Author.Needs.{needs}
 use Rattle.le.proofs.word.u8_bytes.Statement.{statement}
 use Rattle.le.proofs.word.u8_bytes.Tie as tie
 

@@ -1,0 +1,279 @@
+-- The laws of the checks: one for each answer, with what leads there.
+-- Assumes nothing.
+use Prim.Native.Nat.{ℕ, _+_, _*_, _-_, _%_, _^_, _≤_, _<_}
+use mathlib.Core.Bool.{Bool, true, false, not}
+use mathlib.Core.Path.{_≡_, refl, subst, _∙_}
+use mathlib.Core.List.{List}
+use borrow.Author.Tests.{lt-ltb, le-ltb, eq-eqb, ne-eqb, ltb-false, eqb-true, eqb-false}
+use native.Mathlib.Omega.{arith}
+use lib.Dec.{ltb, eqb}
+use lib.ListN.{length, take}
+use Rattle.le.specs.Compare.{same}
+use Rattle.le.specs.Sum.{sum}
+use Rattle.le.proofs.Tests.{apart, neither, agree}
+use Rattle.ubios.specs.Layout.{rootHeader, totalMax, countMax, version, nameOf, totalOf, versionOf, remainingOf, usedOf, rootName, countOf}
+use Rattle.ubios.specs.Checks.{tableAt, outside, badSize, judged, checked, badCount, rootJudged, rootChecked}
+use Rattle.ubios.specs.declared.Table.{Table}
+use Rattle.ubios.specs.declared.Root.{Root}
+use Rattle.ubios.specs.declared.Reason.{Reason}
+use Rattle.ubios.specs.declared.Reason.the-variants.{Outside, Misaligned, BadSize, WrongVersion, WrongSum, NotRoot, BadCount}
+use Rattle.ubios.specs.declared.Checked.{Checked}
+use Rattle.ubios.specs.declared.Checked.the-variants.{Passed, Refused}
+use Rattle.ubios.specs.declared.RootChecked.the-variants.{Passed as RootPassed, Refused as RootRefused}
+
+-- a region that runs past 2^64 has its last byte behind the last address
+pub past-last : (base size : ℕ) → base < 2 ^ 64 → 0 < size → ltb (2 ^ 64 - 1 - base) (size - 1) ≡ ltb (2 ^ 64) (base + size)
+past-last base size h some = agree (2 ^ 64 - 1 - base) (size - 1) (2 ^ 64) (base + size) (λ l. omega arith) (λ l. omega arith)
+
+-- which headers are outside
+module _ (header base size address : ℕ) where
+  pub past-the-top : 2 ^ 64 < base + size → outside header base size address ≡ true
+  unfolding outside
+  past-the-top h = rw (lt-ltb (2 ^ 64) (base + size) h)
+
+  module _ (below : base + size ≤ 2 ^ 64) where
+    by-end : base ≤ address → outside header base size address ≡ ltb (base + size) (address + header)
+    unfolding outside
+    by-end h = rw (le-ltb (2 ^ 64) (base + size) below, le-ltb address base h)
+
+    pub before-region : address < base → outside header base size address ≡ true
+    unfolding outside
+    before-region h = rw (le-ltb (2 ^ 64) (base + size) below, lt-ltb address base h)
+
+    pub behind-region : base ≤ address → size < address - base → outside header base size address ≡ true
+    behind-region h far = by-end h ∙ lt-ltb (base + size) (address + header) (omega arith)
+
+    pub by-room : base ≤ address → address - base ≤ size → outside header base size address ≡ ltb (size - (address - base)) header
+    by-room h near = by-end h ∙ agree (base + size) (address + header) (size - (address - base)) header (λ l. omega arith) (λ l. omega arith)
+
+    pub not-outside : base ≤ address → address + header ≤ base + size → outside header base size address ≡ false
+    not-outside h e = by-end h ∙ le-ltb (base + size) (address + header) e
+
+-- what is known of a header that is not
+pub record Inside (header base size address : ℕ) : Type 0 where
+  pub top : base + size ≤ 2 ^ 64
+  pub start : base ≤ address
+  pub end : address + header ≤ base + size
+
+pub inside : (header base size address : ℕ) → outside header base size address ≡ false → Inside header base size address
+unfolding outside
+inside header base size address e =
+    let p = neither (ltb (2 ^ 64) (base + size)) _ e in
+    let q = neither (ltb address base) _ (p .1) in
+    record {
+      top = ltb-false (2 ^ 64) (base + size) (p .0);
+      start = ltb-false address base (q .0);
+      end = ltb-false (base + size) (address + header) (q .1);
+    }
+
+-- which sizes are bad
+module _ (header size total remaining : ℕ) where
+  pub under-header : total < header → badSize header size total remaining ≡ true
+  unfolding badSize
+  under-header h = rw (lt-ltb total header h)
+
+  module _ (holds : header ≤ total) where
+    pub over-most : totalMax < total → badSize header size total remaining ≡ true
+    unfolding badSize
+    over-most h = rw (le-ltb total header holds, lt-ltb totalMax total h)
+
+    module _ (most : total ≤ totalMax) where
+      pub past-region : size < total → badSize header size total remaining ≡ true
+      unfolding badSize
+      past-region h = rw (le-ltb total header holds, le-ltb totalMax total most, lt-ltb size total h)
+
+      pub by-remaining : total ≤ size → badSize header size total remaining ≡ ltb (total - header) remaining
+      unfolding badSize
+      by-remaining h = rw (le-ltb total header holds, le-ltb totalMax total most, le-ltb size total h)
+
+      pub good-size : total ≤ size → remaining ≤ total - header → badSize header size total remaining ≡ false
+      good-size h r = by-remaining h ∙ le-ltb (total - header) remaining r
+
+-- what is known of sizes that are not
+pub record Sized (header size total remaining : ℕ) : Type 0 where
+  pub holds : header ≤ total
+  pub most : total ≤ totalMax
+  pub inside : total ≤ size
+  pub left : remaining ≤ total - header
+
+pub sized : (header size total remaining : ℕ) → badSize header size total remaining ≡ false → Sized header size total remaining
+unfolding badSize
+sized header size total remaining e =
+    let p = neither (ltb total header) _ e in
+    let q = neither (ltb totalMax total) _ (p .1) in
+    let r = neither (ltb size total) _ (q .1) in
+    record {
+      holds = ltb-false total header (p .0);
+      most = ltb-false totalMax total (q .0);
+      inside = ltb-false size total (r .0);
+      left = ltb-false (total - header) remaining (r .1);
+    }
+
+-- 32, 33, 34
+module _ (header at : ℕ) (t : List ℕ) where
+  pub judged-size : badSize header (length t) (totalOf t) (remainingOf t) ≡ true → judged header at t ≡ Refused BadSize
+  unfolding judged
+  judged-size e = rw e
+
+  module _ (size : badSize header (length t) (totalOf t) (remainingOf t) ≡ false) where
+    pub judged-version : (versionOf t ≡ version → ⊥) → judged header at t ≡ Refused WrongVersion
+    unfolding judged
+    judged-version ne = rw (size, ne-eqb (versionOf t) version ne)
+
+    module _ (one : versionOf t ≡ version) where
+      pub judged-sum : (sum 4 (take (usedOf t) t) ≡ 0 → ⊥) → judged header at t ≡ Refused WrongSum
+      unfolding judged
+      judged-sum ne = rw (size, eq-eqb (versionOf t) version one, ne-eqb (sum 4 (take (usedOf t) t)) 0 ne)
+
+      pub judged-passed : sum 4 (take (usedOf t) t) ≡ 0 → judged header at t ≡ Passed (record { at = at; used = usedOf t })
+      unfolding judged
+      judged-passed e = rw (size, eq-eqb (versionOf t) version one, eq-eqb (sum 4 (take (usedOf t) t)) 0 e)
+
+-- 31, 30, and what is left to them
+module _ (header base : ℕ) (region : List ℕ) (address : ℕ) where
+  pub misaligned : (address % 8 ≡ 0 → ⊥) → checked header base region address ≡ Refused Misaligned
+  unfolding checked
+  misaligned ne = rw (ne-eqb (address % 8) 0 ne)
+
+  module _ (aligned : address % 8 ≡ 0) where
+    pub is-outside : outside header base (length region) address ≡ true → checked header base region address ≡ Refused Outside
+    unfolding checked
+    is-outside e = rw (eq-eqb (address % 8) 0 aligned, e)
+
+    pub is-inside : outside header base (length region) address ≡ false
+        → checked header base region address ≡ judged header (address - base) (tableAt base region address)
+    unfolding checked
+    is-inside e = rw (eq-eqb (address % 8) 0 aligned, e)
+
+-- all that is known of a table that passes
+pub record Passing (header base : ℕ) (region : List ℕ) (address : ℕ) (table : Table) : Type 0 where
+  pub aligned : address % 8 ≡ 0
+  pub inside : Inside header base (length region) address
+  pub sized : Sized header (length (tableAt base region address)) (totalOf (tableAt base region address)) (remainingOf (tableAt base region address))
+  pub one : versionOf (tableAt base region address) ≡ version
+  pub zero : sum 4 (take (usedOf (tableAt base region address)) (tableAt base region address)) ≡ 0
+  pub is : table ≡ record { at = address - base; used = usedOf (tableAt base region address) }
+
+pub passing : (header base : ℕ) (region : List ℕ) (address : ℕ) (table : Table) → checked header base region address ≡ Passed table → Passing header base region address table
+passing header base region address table e = by-aligned (eqb (address % 8) 0) refl
+  where
+    t : List ℕ
+    t = tableAt base region address
+
+    by-sum : address % 8 ≡ 0 → outside header base (length region) address ≡ false → badSize header (length t) (totalOf t) (remainingOf t) ≡ false
+        → versionOf t ≡ version → (b : Bool) → eqb (sum 4 (take (usedOf t) t)) 0 ≡ b → Passing header base region address table
+    by-sum a o s v true q =
+        let zero = eqb-true (sum 4 (take (usedOf t) t)) 0 q in
+        let all = is-inside header base region address a o ∙ judged-passed header (address - base) t s v zero in
+        record {
+          aligned = a;
+          inside = inside header base (length region) address o;
+          sized = sized header (length t) (totalOf t) (remainingOf t) s;
+          one = v;
+          zero = zero;
+          is = cc;
+        }
+    by-sum a o s v false q =
+        let all = is-inside header base region address a o ∙ judged-sum header (address - base) t s v (eqb-false (sum 4 (take (usedOf t) t)) 0 q) in apart (cc)
+
+    by-version : address % 8 ≡ 0 → outside header base (length region) address ≡ false → badSize header (length t) (totalOf t) (remainingOf t) ≡ false
+        → (b : Bool) → eqb (versionOf t) version ≡ b → Passing header base region address table
+    by-version a o s true q = by-sum a o s (eqb-true (versionOf t) version q) (eqb (sum 4 (take (usedOf t) t)) 0) refl
+    by-version a o s false q =
+        let all = is-inside header base region address a o ∙ judged-version header (address - base) t s (eqb-false (versionOf t) version q) in apart (cc)
+
+    by-size : address % 8 ≡ 0 → outside header base (length region) address ≡ false
+        → (b : Bool) → badSize header (length t) (totalOf t) (remainingOf t) ≡ b → Passing header base region address table
+    by-size a o true q = let all = is-inside header base region address a o ∙ judged-size header (address - base) t q in apart (cc)
+    by-size a o false q = by-version a o q (eqb (versionOf t) version) refl
+
+    by-place : address % 8 ≡ 0 → (b : Bool) → outside header base (length region) address ≡ b → Passing header base region address table
+    by-place a true q = let all = is-outside header base region address a q in apart (cc)
+    by-place a false q = by-size a q (badSize header (length t) (totalOf t) (remainingOf t)) refl
+
+    by-aligned : (b : Bool) → eqb (address % 8) 0 ≡ b → Passing header base region address table
+    by-aligned true q = by-place (eqb-true (address % 8) 0 q) (outside header base (length region) address) refl
+    by-aligned false q = let all = misaligned header base region address (eqb-false (address % 8) 0 q) in apart (cc)
+
+-- a passing table's header lies in the region and in its used part
+pub header-fits : (header base : ℕ) (region : List ℕ) (address : ℕ) (table : Table) → checked header base region address ≡ Passed table → table .at + header ≤ length region
+header-fits header base region address table e =
+    let p = passing header base region address table e in
+    rw (p .is) (omega (arith, p .inside .start, p .inside .end))
+
+pub header-used : (header base : ℕ) (region : List ℕ) (address : ℕ) (table : Table) → checked header base region address ≡ Passed table → header ≤ table .used
+header-used header base region address table e =
+    let p = passing header base region address table e in
+    rw (p .is) (omega (arith, p .sized .holds, p .sized .left))
+
+-- 35, 36, and the root
+module _ (table : Table) (t : List ℕ) where
+  pub root-name : same (nameOf t) rootName ≡ false → rootJudged table t ≡ RootRefused NotRoot
+  unfolding rootJudged
+  root-name e = rw e
+
+  -- n is Count as it was read
+  module _ (named : same (nameOf t) rootName ≡ true) (n : ℕ) (read : n ≡ countOf t) where
+    pub root-count : badCount (table .used) n ≡ true → rootJudged table t ≡ RootRefused BadCount
+    unfolding rootJudged
+    root-count e = rw (named, ← read, e)
+
+    pub root-passed : badCount (table .used) n ≡ false → rootJudged table t ≡ RootPassed (record { table = table; count = n })
+    unfolding rootJudged
+    root-passed e = rw (named, ← read, e)
+
+module _ (base : ℕ) (region : List ℕ) (address : ℕ) where
+  pub root-refused : (reason : Reason) → checked rootHeader base region address ≡ Refused reason → rootChecked base region address ≡ RootRefused reason
+  unfolding rootChecked
+  root-refused reason e = rw e
+
+  pub root-judged : (table : Table) → checked rootHeader base region address ≡ Passed table
+      → rootChecked base region address ≡ rootJudged table (tableAt base region address)
+  unfolding rootChecked
+  root-judged table e = rw e
+
+-- all that is known of a root that passes, beside what is known of a table
+pub record Rooted (base : ℕ) (region : List ℕ) (address : ℕ) (root : Root) : Type 0 where
+  pub passes : checked rootHeader base region address ≡ Passed (root .table)
+  pub named : same (nameOf (tableAt base region address)) rootName ≡ true
+  pub counted : badCount (root .table .used) (root .count) ≡ false
+  pub count : root .count ≡ countOf (tableAt base region address)
+
+pub rooted : (base : ℕ) (region : List ℕ) (address : ℕ) (root : Root) → rootChecked base region address ≡ RootPassed root → Rooted base region address root
+rooted base region address root e = by-table (checked rootHeader base region address) refl
+  where
+    t : List ℕ
+    t = tableAt base region address
+
+    by-count : (table : Table) → checked rootHeader base region address ≡ Passed table → same (nameOf t) rootName ≡ true
+        → (b : Bool) → badCount (table .used) (countOf t) ≡ b → Rooted base region address root
+    by-count table p n true q =
+        let all = root-judged base region address table p ∙ root-count table t n (countOf t) refl q in apart (cc)
+    by-count table p n false q =
+        let all = root-judged base region address table p ∙ root-passed table t n (countOf t) refl q in
+        let is : record { table = table; count = countOf t } ≡ root = cc in
+        subst (Rooted base region address) is (record { passes = p; named = n; counted = q; count = refl })
+
+    by-name : (table : Table) → checked rootHeader base region address ≡ Passed table → (b : Bool) → same (nameOf t) rootName ≡ b → Rooted base region address root
+    by-name table p true q = by-count table p q (badCount (table .used) (countOf t)) refl
+    by-name table p false q = let all = root-judged base region address table p ∙ root-name table t q in apart (cc)
+
+    by-table : (c : Checked) → checked rootHeader base region address ≡ c → Rooted base region address root
+    by-table (Passed table) q = by-name table q (same (nameOf t) rootName) refl
+    by-table (Refused reason) q = let all = root-refused base region address reason q in apart (cc)
+
+-- which counts are bad
+module _ (used count : ℕ) where
+  pub many-slots : countMax < count → badCount used count ≡ true
+  many-slots h = rw (lt-ltb countMax count h)
+
+  module _ (few : count ≤ countMax) where
+    pub beyond-used : used < rootHeader + 8 * count → badCount used count ≡ true
+    beyond-used h = rw (le-ltb countMax count few, lt-ltb used (rootHeader + 8 * count) h)
+
+    pub good-count : rootHeader + 8 * count ≤ used → badCount used count ≡ false
+    good-count h = rw (le-ltb countMax count few, le-ltb used (rootHeader + 8 * count) h)
+
+pub few-slots : (used count : ℕ) → badCount used count ≡ false → (count ≤ countMax) × (rootHeader + 8 * count ≤ used)
+few-slots used count e =
+    let p = neither (ltb countMax count) _ e in (ltb-false countMax count (p .0), ltb-false used (rootHeader + 8 * count) (p .1))

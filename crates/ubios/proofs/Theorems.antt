@@ -1,0 +1,267 @@
+-- The theorems of `specs/Statements.antt`: which slot is found, what a gap changes, and where the body lies.
+-- Assumes nothing.
+use Prim.Native.Nat.{ℕ, zero, suc, _+_, _-_, _≤_, _<_}
+use mathlib.Core.Bool.{Bool, true, false, cond}
+use mathlib.Core.Path.{_≡_, refl, sym, ap, ap₂, _∙_}
+use mathlib.Core.List.{List, [], _∷_, _++_, append-assoc, map}
+use borrow.Author.Tests.{lt-ltb, le-ltb}
+use native.Mathlib.Omega.{arith}
+use lib.Dec.{ltb}
+use lib.ListN.{length, take, drop, length-drop, length-append}
+use lib.Seq.{take-nil, drop-drop}
+use Rattle.le.specs.Compare.{same}
+use Rattle.le.proofs.Tests.{apart}
+use Rattle.ubios.specs.Layout.{tableHeader, nameOf, usedOf, slotsOf}
+use Rattle.ubios.specs.Checks.{tableAt, checked, rootChecked}
+use Rattle.ubios.specs.Lookup.{badName, passes, leads, bodyAt, hits, answerOf, lookedUp, found}
+use Rattle.ubios.specs.Statements.{NoneLeads, OnlyOne, FoundOnly, OnlyFound, BehindGap, SameTables, movedOn, GapAdded, BodyInside, BodyBytes}
+use Rattle.ubios.specs.declared.Table.{Table}
+use Rattle.ubios.specs.declared.RootChecked.{RootChecked}
+use Rattle.ubios.specs.declared.RootChecked.the-variants.{Passed as RootPassed, Refused as RootRefused}
+use Rattle.ubios.specs.declared.lookup.Body.{Body}
+use Rattle.ubios.specs.declared.lookup.Found.the-variants.{Only}
+use Rattle.ubios.proofs.Answers.{passing}
+use Rattle.ubios.proofs.Walking.{gap, led, no-slots, passes-over, meets, bad-name, no-root, in-root}
+
+-- what is equal in equal lists and equal answers
+cons-head : {b c : Body} {l m : List Body} → b ∷ l ≡ c ∷ m → b ≡ c
+cons-head e = cc
+
+cons-tail : {b c : Body} {l m : List Body} → b ∷ l ≡ c ∷ m → l ≡ m
+cons-tail e = cc
+
+only-inj : {b c : Body} → Only b ≡ Only c → b ≡ c
+only-inj e = cc
+
+-- the hits among slots of which none leads there, and of which one does
+module _ (base : ℕ) (region name : List ℕ) where
+  none-hit : (k : ℕ) (slots : List ℕ) → NoneLeads base region name slots → hits base region name k slots ≡ []
+  none-hit k [] h = no-slots base region name k
+  none-hit k (a ∷ slots) h = passes-over base region name k a slots (h .0) ∙ none-hit (suc k) slots (h .1)
+
+  one-hit : (k : ℕ) (before : List ℕ) (a : ℕ) (after : List ℕ) → NoneLeads base region name before → leads base region name a ≡ true → NoneLeads base region name after
+      → hits base region name k (before ++ (a ∷ after)) ≡ bodyAt base region (k + length before) a ∷ []
+  one-hit k [] a after hb h ha =
+      let here : k ≡ k + 0 = omega arith in
+      meets base region name k a after h ∙ ap₂ (λ (i : ℕ) (l : List Body). bodyAt base region i a ∷ l) here (none-hit (suc k) after ha)
+  one-hit k (x ∷ before) a after hb h ha =
+      let on : suc k + length before ≡ k + suc (length before) = omega arith in
+      passes-over base region name k x (before ++ (a ∷ after)) (hb .0)
+      ∙ one-hit (suc k) before a after (hb .1) h ha
+      ∙ ap (λ (i : ℕ). bodyAt base region i a ∷ []) on
+
+  one-of-all : (before : List ℕ) (a : ℕ) (after : List ℕ) → NoneLeads base region name before → leads base region name a ≡ true → NoneLeads base region name after
+      → lookedUp base region name (before ++ (a ∷ after)) ≡ Only (bodyAt base region (length before) a)
+  one-of-all before a after hb h ha =
+      let start : 0 + length before ≡ length before = omega arith in
+      ap answerOf (one-hit 0 before a after hb h ha ∙ ap (λ (i : ℕ). bodyAt base region i a ∷ []) start)
+
+  -- and back: what the hits say of the slots
+  none-lead : (k : ℕ) (slots : List ℕ) → hits base region name k slots ≡ [] → NoneLeads base region name slots
+  none-lead k [] e = tt
+  none-lead k (a ∷ slots) e = go (leads base region name a) refl (none-lead (suc k) slots)
+    where
+      go : (t : Bool) → leads base region name a ≡ t → (hits base region name (suc k) slots ≡ [] → NoneLeads base region name slots) → NoneLeads base region name (a ∷ slots)
+      go true q later = let z = sym (meets base region name k a slots q) ∙ e in apart (cc)
+      go false q later = (q, later (sym (passes-over base region name k a slots q) ∙ e))
+
+  -- where among the slots the only hit is
+  record Place (k : ℕ) (slots : List ℕ) (b : Body) : Type 0 where
+    before : List ℕ
+    address : ℕ
+    after : List ℕ
+    all : slots ≡ before ++ (address ∷ after)
+    leads-there : leads base region name address ≡ true
+    none-before : NoneLeads base region name before
+    none-after : NoneLeads base region name after
+    is : b ≡ bodyAt base region (k + length before) address
+
+  place : (k : ℕ) (slots : List ℕ) (b : Body) → hits base region name k slots ≡ b ∷ [] → Place k slots b
+  place k [] b e = let z = sym (no-slots base region name k) ∙ e in apart (cc)
+  place k (a ∷ slots) b e = go (leads base region name a) refl (place (suc k) slots b)
+    where
+      go : (t : Bool) → leads base region name a ≡ t → (hits base region name (suc k) slots ≡ b ∷ [] → Place (suc k) slots b) → Place k (a ∷ slots) b
+      go true q later =
+          let here = sym (meets base region name k a slots q) ∙ e in
+          let start : k ≡ k + 0 = omega arith in
+          record {
+            before = [];
+            address = a;
+            after = slots;
+            all = refl;
+            leads-there = q;
+            none-before = tt;
+            none-after = none-lead (suc k) slots (cons-tail here);
+            is = sym (cons-head here) ∙ ap (λ (i : ℕ). bodyAt base region i a) start;
+          }
+      go false q later =
+          let p = later (sym (passes-over base region name k a slots q) ∙ e) in
+          let on : suc k + length (p .before) ≡ k + suc (length (p .before)) = omega arith in
+          record {
+            before = a ∷ p .before;
+            address = p .address;
+            after = p .after;
+            all = ap (λ (l : List ℕ). a ∷ l) (p .all);
+            leads-there = p .leads-there;
+            none-before = (q, p .none-before);
+            none-after = p .none-after;
+            is = p .is ∙ ap (λ (i : ℕ). bodyAt base region i (p .address)) on;
+          }
+
+pub only-found : OnlyFound
+only-found base region root name r b good passed one =
+    in-root base region root name good r passed
+    ∙ ap (lookedUp base region name) (one .slots)
+    ∙ one-of-all base region name (one .before) (one .address) (one .after) (one .none-before) (one .leads-there) (one .none-after)
+    ∙ ap Only (sym (one .is))
+
+-- an answer that is a body comes of one hit
+one-answer : (l : List Body) (b : Body) → answerOf l ≡ Only b → l ≡ b ∷ []
+one-answer [] b e = apart (cc)
+one-answer (c ∷ []) b e = ap (λ (x : Body). x ∷ []) (only-inj e)
+one-answer (c ∷ d ∷ l) b e = apart (cc)
+
+pub found-only : FoundOnly
+found-only base region root name b e = by-name (badName name) refl
+  where
+    by-root : badName name ≡ false → (c : RootChecked) → rootChecked base region root ≡ c → OnlyOne base region root name b
+    by-root good (RootRefused reason) q = let z = sym (no-root base region root name good reason q) ∙ e in apart (cc)
+    by-root good (RootPassed r) q =
+        let slots = slotsOf (tableAt base region root) in
+        let p = place base region name 0 slots b (one-answer (hits base region name 0 slots) b (sym (in-root base region root name good r q) ∙ e)) in
+        let start : 0 + length (p .before) ≡ length (p .before) = omega arith in
+        record {
+          before = p .before;
+          address = p .address;
+          after = p .after;
+          slots = p .all;
+          leads-there = p .leads-there;
+          none-before = p .none-before;
+          none-after = p .none-after;
+          is = p .is ∙ ap (λ (i : ℕ). bodyAt base region i (p .address)) start;
+        }
+
+    by-name : (t : Bool) → badName name ≡ t → OnlyOne base region root name b
+    by-name true q = let z = sym (bad-name base region root name q) ∙ e in apart (cc)
+    by-name false q = by-root q (rootChecked base region root) refl
+
+-- slots of which none leads there, joined
+none-joined : (base : ℕ) (region name before after : List ℕ) → NoneLeads base region name before → NoneLeads base region name after → NoneLeads base region name (before ++ after)
+none-joined base region name [] after hb ha = ha
+none-joined base region name (x ∷ before) after hb ha = (hb .0, none-joined base region name before after (hb .1) ha)
+
+pub behind-gap : BehindGap
+behind-gap base region root name r before between address after good passed slots h hb hm ha =
+    let front = before ++ (0 ∷ between) in
+    let none : NoneLeads base region name front =
+    none-joined base region name before (0 ∷ between) hb (gap base region name 0 refl, hm) in
+    in-root base region root name good r passed
+    ∙ ap (lookedUp base region name) (slots ∙ sym (append-assoc before (0 ∷ between) (address ∷ after)))
+    ∙ one-of-all base region name front address after none h ha
+    ∙ ap (λ (i : ℕ). Only (bodyAt base region i address)) (length-append before (0 ∷ between))
+
+-- the same table in two regions leads there in both or in neither, to the same body
+module _ (base : ℕ) (region region′ name : List ℕ) (a : ℕ)
+    (check : checked tableHeader base region a ≡ checked tableHeader base region′ a)
+    (names : nameOf (tableAt base region a) ≡ nameOf (tableAt base region′ a)) where
+  same-leads : leads base region′ name a ≡ leads base region name a
+  unfolding leads
+  same-leads = rw (check, names)
+
+  same-body : (k : ℕ) → leads base region name a ≡ true → bodyAt base region′ k a ≡ bodyAt base region k a
+  same-body k q =
+      let l = led base region name a q in
+      let here = passing tableHeader base region a (l .table) (l .passes) .is in
+      let there = passing tableHeader base region′ a (l .table) (sym check ∙ l .passes) .is in
+      let used : usedOf (tableAt base region′ a) ≡ usedOf (tableAt base region a) = ap (λ (t : Table). t .used) (sym there ∙ here) in
+      ap (λ (n : ℕ). record { slot = k; at = a - base + tableHeader; length = n - tableHeader }) used
+
+same-hits : (base : ℕ) (region region′ name : List ℕ) (k : ℕ) (slots : List ℕ) → SameTables base region region′ slots
+    → hits base region′ name k slots ≡ hits base region name k slots
+same-hits base region region′ name k [] h = no-slots base region′ name k ∙ sym (no-slots base region name k)
+same-hits base region region′ name k (a ∷ slots) h = go (leads base region name a) refl (same-hits base region region′ name (suc k) slots (h .2))
+  where
+    go : (t : Bool) → leads base region name a ≡ t → hits base region′ name (suc k) slots ≡ hits base region name (suc k) slots
+        → hits base region′ name k (a ∷ slots) ≡ hits base region name k (a ∷ slots)
+    go true q rest =
+        meets base region′ name k a slots (same-leads base region region′ name a (h .0) (h .1) ∙ q)
+        ∙ ap₂ (λ (b : Body) (l : List Body). b ∷ l) (same-body base region region′ name a (h .0) (h .1) k q) rest
+        ∙ sym (meets base region name k a slots q)
+    go false q rest =
+        passes-over base region′ name k a slots (same-leads base region region′ name a (h .0) (h .1) ∙ q)
+        ∙ rest
+        ∙ sym (passes-over base region name k a slots q)
+
+-- a hit with the number of each slot from n on one higher
+abbrev later : ℕ → Body → Body
+later n b = record { slot = cond (ltb (b .slot) n) (b .slot) (suc (b .slot)); at = b .at; length = b .length }
+
+answer-later : (n : ℕ) (l : List Body) → answerOf (map (later n) l) ≡ movedOn n (answerOf l)
+answer-later n [] = refl
+answer-later n (b ∷ []) = refl
+answer-later n (b ∷ c ∷ l) = refl
+
+module _ (base : ℕ) (region name : List ℕ) (n : ℕ) where
+  -- slots from n on have the next number
+  move : (k : ℕ) (slots : List ℕ) → n ≤ k → map (later n) (hits base region name k slots) ≡ hits base region name (suc k) slots
+  move k [] h = rw (no-slots base region name k, no-slots base region name (suc k))
+  move k (a ∷ slots) h = go (leads base region name a) refl (move (suc k) slots (omega arith))
+    where
+      go : (t : Bool) → leads base region name a ≡ t → map (later n) (hits base region name (suc k) slots) ≡ hits base region name (suc (suc k)) slots
+          → map (later n) (hits base region name k (a ∷ slots)) ≡ hits base region name (suc k) (a ∷ slots)
+      go true q rest = rw (meets base region name k a slots q, meets base region name (suc k) a slots q, le-ltb k n h, rest)
+      go false q rest = rw (passes-over base region name k a slots q, passes-over base region name (suc k) a slots q) rest
+
+  -- a gap at n
+  gap-hits : (k : ℕ) (before after : List ℕ) → k + length before ≡ n
+      → hits base region name k (before ++ (0 ∷ after)) ≡ map (later n) (hits base region name k (before ++ after))
+  gap-hits k [] after h =
+      passes-over base region name k 0 after (gap base region name 0 refl) ∙ sym (move k after (omega arith))
+  gap-hits k (a ∷ before) after h = go (leads base region name a) refl (gap-hits (suc k) before after (omega arith))
+    where
+      go : (t : Bool) → leads base region name a ≡ t
+          → hits base region name (suc k) (before ++ (0 ∷ after)) ≡ map (later n) (hits base region name (suc k) (before ++ after))
+          → hits base region name k (a ∷ (before ++ (0 ∷ after))) ≡ map (later n) (hits base region name k (a ∷ (before ++ after)))
+      go true q rest =
+          let low : k < n = omega arith in
+          rw (meets base region name k a (before ++ (0 ∷ after)) q, meets base region name k a (before ++ after) q, lt-ltb k n low, rest)
+      go false q rest =
+          rw (passes-over base region name k a (before ++ (0 ∷ after)) q, passes-over base region name k a (before ++ after) q) rest
+
+pub gap-added : GapAdded
+gap-added base region region′ root root′ name r r′ before after passed passed′ slots slots′ same-tables = go (badName name) refl
+  where
+    go : (t : Bool) → badName name ≡ t → found base region′ root′ name ≡ movedOn (length before) (found base region root name)
+    go true q = bad-name base region′ root′ name q ∙ ap (movedOn (length before)) (sym (bad-name base region root name q))
+    go false q =
+        let start : 0 + length before ≡ length before = omega arith in
+        in-root base region′ root′ name q r′ passed′
+        ∙ ap (lookedUp base region′ name) slots′
+        ∙ ap answerOf (gap-hits base region′ name (length before) 0 before after start ∙ ap (map (later (length before))) (same-hits base region region′ name 0 (before ++ after) same-tables))
+        ∙ answer-later (length before) (hits base region name 0 (before ++ after))
+        ∙ ap (movedOn (length before)) (sym (in-root base region root name q r passed ∙ ap (lookedUp base region name) slots))
+
+-- where a table that a slot leads to stands
+module _ (base : ℕ) (region name : List ℕ) (a : ℕ) (q : leads base region name a ≡ true) where
+  body-end : (k : ℕ) → bodyAt base region k a .at + bodyAt base region k a .length ≤ length region
+  body-end k =
+      let l = led base region name a q in
+      let p = passing tableHeader base region a (l .table) (l .passes) in
+      let room = length-drop (a - base) region in
+      omega (arith, p .sized .holds, p .sized .left, p .sized .inside, room)
+
+pub body-inside : BodyInside
+body-inside base region root name b e =
+    let one = found-only base region root name b e in
+    rw (one .is) (body-end base region name (one .address) (one .leads-there) (length (one .before)))
+
+drop-take : (m n : ℕ) (s : List ℕ) → drop m (take n s) ≡ take (n - m) (drop m s)
+drop-take zero n s = let all : n - 0 ≡ n = omega arith in rw all
+drop-take (suc m) zero s = let none : 0 - suc m ≡ 0 = omega arith in rw none
+drop-take (suc m) (suc n) [] = sym (take-nil (suc n - suc m))
+drop-take (suc m) (suc n) (x ∷ s) = let less : suc n - suc m ≡ n - m = omega arith in rw less (drop-take m n s)
+
+pub body-bytes : BodyBytes
+body-bytes base region root name b one =
+    let t = tableAt base region (one .address) in
+    rw (one .is, ← drop-drop tableHeader (one .address - base) region) (sym (drop-take tableHeader (usedOf t) t))

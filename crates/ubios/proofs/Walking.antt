@@ -1,0 +1,238 @@
+-- The laws of the look-up: which slots lead to a passing table of the name, and what a walk over the slots meets.
+-- Assumes nothing.
+use Prim.Native.Nat.{ℕ, zero, suc, _+_, _*_, _-_, _≤_, _<_}
+use mathlib.Core.Bool.{Bool, true, false, cond, not, _&&_}
+use mathlib.Core.Path.{_≡_, refl, sym, ap, _∙_}
+use mathlib.Core.List.{List, [], _∷_}
+use borrow.Author.Tests.{ne-eqb, ltb-true, ltb-false}
+use native.Mathlib.Numerals.{add-one}
+use native.Mathlib.Omega.{arith}
+use lib.Dec.{ltb, eqb}
+use lib.ListN.{length, drop}
+use lib.Seq.{drop-drop}
+use Rattle.le.specs.Word.{word}
+use Rattle.le.specs.Compare.{same}
+use Rattle.le.proofs.Tests.{apart, both}
+use Rattle.ubios.specs.Layout.{tableHeader, nameOf, addresses, slotsOf}
+use Rattle.ubios.specs.Checks.{tableAt, checked, rootChecked}
+use Rattle.ubios.specs.Lookup.{badName, passes, leads, bodyAt, hits, answerOf, lookedUp, found}
+use Rattle.ubios.specs.Helpers.{hitOf, firstOf}
+use Rattle.ubios.specs.declared.Table.{Table}
+use Rattle.ubios.specs.declared.Root.{Root}
+use Rattle.ubios.specs.declared.Reason.{Reason}
+use Rattle.ubios.specs.declared.Reason.the-variants.{NoTable, TwoTables, BadName}
+use Rattle.ubios.specs.declared.Checked.{Checked}
+use Rattle.ubios.specs.declared.Checked.the-variants.{Passed, Refused}
+use Rattle.ubios.specs.declared.RootChecked.the-variants.{Passed as RootPassed, Refused as RootRefused}
+use Rattle.ubios.specs.declared.lookup.Body.{Body}
+use Rattle.ubios.specs.declared.lookup.Found.the-variants.{Only, Refused as Refuses}
+use Rattle.ubios.specs.declared.lookup.Hit.the-variants.{None, Some}
+use Rattle.ubios.proofs.Answers.{passing}
+
+-- which slots lead to a passing table of the name
+module _ (base : ℕ) (region name : List ℕ) (address : ℕ) where
+  pub gap : address ≡ 0 → leads base region name address ≡ false
+  unfolding leads
+  gap e = rw e
+
+  pub other-name : same (nameOf (tableAt base region address)) name ≡ false → leads base region name address ≡ false
+  unfolding leads
+  other-name e = rw e (neither-way (not (eqb address 0)) (passes (checked tableHeader base region address)))
+    where
+      neither-way : (a b : Bool) → a && (b && false) ≡ false
+      neither-way true true = refl
+      neither-way true false = refl
+      neither-way false b = refl
+
+  pub fails : (reason : Reason) → checked tableHeader base region address ≡ Refused reason → leads base region name address ≡ false
+  unfolding leads
+  fails reason e = rw e (go (not (eqb address 0)))
+    where
+      go : (a : Bool) → a && false ≡ false
+      go true = refl
+      go false = refl
+
+  pub below-region : address < base → leads base region name address ≡ false
+  below-region h = go (checked tableHeader base region address) refl
+    where
+      go : (c : Checked) → checked tableHeader base region address ≡ c → leads base region name address ≡ false
+      go (Passed t) e = absurd (omega (arith, passing tableHeader base region address t e .inside .start))
+      go (Refused reason) e = fails reason e
+
+  pub leads-there : (table : Table) → (address ≡ 0 → ⊥) → checked tableHeader base region address ≡ Passed table
+      → same (nameOf (tableAt base region address)) name ≡ true → leads base region name address ≡ true
+  unfolding leads
+  leads-there table ne e named = rw (ne-eqb address 0 ne, e, named)
+
+  -- what is known of a slot that does
+  pub record Led : Type 0 where
+    pub table : Table
+    pub passes : checked tableHeader base region address ≡ Passed table
+    pub named : same (nameOf (tableAt base region address)) name ≡ true
+
+  pub led : leads base region name address ≡ true → Led
+  unfolding leads
+  led e =
+      let p = both (not (eqb address 0)) _ e in
+      let q = both (passes (checked tableHeader base region address)) _ (p .1) in
+      go (checked tableHeader base region address) refl (q .0) (q .1)
+    where
+      go : (c : Checked) → checked tableHeader base region address ≡ c → passes c ≡ true → same (nameOf (tableAt base region address)) name ≡ true → Led
+      go (Passed t) r h n = record { table = t; passes = r; named = n }
+      go (Refused reason) r h n = apart (cc)
+
+  module _ (slot : ℕ) where
+    pub no-hit : leads base region name address ≡ false → hitOf base region name slot address ≡ None
+    no-hit e = rw e
+
+    pub hit : (table : Table) → (address ≡ 0 → ⊥) → checked tableHeader base region address ≡ Passed table
+        → same (nameOf (tableAt base region address)) name ≡ true
+        → hitOf base region name slot address ≡ Some (record { slot = slot; at = table .at + tableHeader; length = table .used - tableHeader })
+    hit table ne e named =
+        rw (leads-there table ne e named)
+        (ap (λ (t : Table). Some (record { slot = slot; at = t .at + tableHeader; length = t .used - tableHeader })) (sym (passing tableHeader base region address table e .is)))
+
+some-inj : {a b : Body} → Some a ≡ Some b → a ≡ b
+some-inj e = cc
+
+-- the addresses from one slot on
+pub slots-from : (s : List ℕ) (count slot : ℕ) → slot < count
+    → addresses (count - slot) (drop (8 * slot) s) ≡ word 8 (drop (8 * slot) s) ∷ addresses (count - (slot + 1)) (drop (8 * (slot + 1)) s)
+unfolding addresses
+slots-from s count slot h =
+    let one-less : count - slot ≡ suc (count - (slot + 1)) = omega arith in
+    let on : 8 * slot + 8 ≡ 8 * (slot + 1) = omega arith in
+    rw (one-less, drop-drop 8 (8 * slot) s, on)
+
+pub slots-end : (s : List ℕ) (count slot : ℕ) → count ≤ slot → addresses (count - slot) s ≡ []
+unfolding addresses
+slots-end s count slot h = let none : count - slot ≡ 0 = omega arith in rw none
+
+-- a walk over the slots, which meets a hit or passes the slot over
+module _ (base : ℕ) (region name : List ℕ) where
+  pub no-slots : (k : ℕ) → hits base region name k [] ≡ []
+  unfolding hits
+  no-slots k = refl
+
+  pub passes-over : (k a : ℕ) (slots : List ℕ) → leads base region name a ≡ false → hits base region name k (a ∷ slots) ≡ hits base region name (suc k) slots
+  unfolding hits
+  passes-over k a slots e = rw e
+
+  pub meets : (k a : ℕ) (slots : List ℕ) → leads base region name a ≡ true
+      → hits base region name k (a ∷ slots) ≡ bodyAt base region k a ∷ hits base region name (suc k) slots
+  unfolding hits
+  meets k a slots e = rw e
+
+  pub turn : (k a : ℕ) (slots : List ℕ) → hitOf base region name k a ≡ None → hits base region name k (a ∷ slots) ≡ hits base region name (k + 1) slots
+  unfolding hits
+  turn k a slots e = rw (add-one k) (go (leads base region name a) e)
+    where
+      go : (t : Bool) → cond t (Some (bodyAt base region k a)) None ≡ None
+          → cond t (bodyAt base region k a ∷ hits base region name (suc k) slots) (hits base region name (suc k) slots) ≡ hits base region name (suc k) slots
+      go true q = apart (cc)
+      go false q = refl
+
+  pub met : (k a : ℕ) (b : Body) (slots : List ℕ) → hitOf base region name k a ≡ Some b → firstOf (hits base region name k (a ∷ slots)) ≡ Some b
+  unfolding hits
+  met k a b slots e = go (leads base region name a) e
+    where
+      go : (t : Bool) → cond t (Some (bodyAt base region k a)) None ≡ Some b
+          → firstOf (cond t (bodyAt base region k a ∷ hits base region name (suc k) slots) (hits base region name (suc k) slots)) ≡ Some b
+      go true q = q
+      go false q = apart (cc)
+
+  -- the hits from one slot on
+  abbrev pub from : ℕ → List ℕ → ℕ → List Body
+  from count s k = hits base region name k (addresses (count - k) (drop (8 * k) s))
+
+  -- what is known where the first of them is b: its slot, and that those from the next slot on are the others
+  pub record First (count : ℕ) (s : List ℕ) (k : ℕ) (b : Body) : Type 0 where
+    pub below : b .slot < count
+    pub others : from count s k ≡ b ∷ from count s (b .slot + 1)
+
+  pub first : (count : ℕ) (s : List ℕ) (fuel k : ℕ) (b : Body) → count ≤ k + fuel → firstOf (from count s k) ≡ Some b → First count s k b
+  first count s zero k b enough e =
+      let none : from count s k ≡ [] = ap (hits base region name k) (slots-end (drop (8 * k) s) count k (omega arith)) ∙ no-slots k in
+      let z : None ≡ Some b = sym (ap firstOf none) ∙ e in
+      apart (cc)
+  first count s (suc fuel) k b enough e = by-end (ltb k count) refl (first count s fuel (k + 1) b (omega arith))
+    where
+      by-slot : k < count → (t : Bool) → leads base region name (word 8 (drop (8 * k) s)) ≡ t
+          → (firstOf (from count s (k + 1)) ≡ Some b → First count s (k + 1) b)
+          → First count s k b
+      by-slot h true q later =
+          let a = word 8 (drop (8 * k) s) in
+          let here : from count s k ≡ bodyAt base region k a ∷ from count s (k + 1) =
+          ap (hits base region name k) (slots-from s count k h)
+          ∙ meets k a _ q
+          ∙ ap (λ (i : ℕ). bodyAt base region k a ∷ hits base region name i (addresses (count - (k + 1)) (drop (8 * (k + 1)) s))) (sym (add-one k)) in
+          let is : bodyAt base region k a ≡ b = some-inj (sym (ap firstOf here) ∙ e) in
+          let slot : k ≡ b .slot = ap (λ (x : Body). x .slot) is in
+          record {
+            below = rw (← slot) h;
+            others = here ∙ ap (λ (x : Body). x ∷ from count s (k + 1)) is ∙ ap (λ (i : ℕ). b ∷ from count s (i + 1)) slot;
+          }
+      by-slot h false q later =
+          let over : from count s k ≡ from count s (k + 1) =
+          ap (hits base region name k) (slots-from s count k h)
+          ∙ passes-over k (word 8 (drop (8 * k) s)) _ q
+          ∙ ap (λ (i : ℕ). hits base region name i (addresses (count - (k + 1)) (drop (8 * (k + 1)) s))) (sym (add-one k)) in
+          let l = later (sym (ap firstOf over) ∙ e) in
+          record { below = l .below; others = over ∙ l .others }
+
+      by-end : (t : Bool) → ltb k count ≡ t → (firstOf (from count s (k + 1)) ≡ Some b → First count s (k + 1) b) → First count s k b
+      by-end true q later = by-slot (ltb-true k count q) (leads base region name (word 8 (drop (8 * k) s))) refl later
+      by-end false q later =
+          let none : from count s k ≡ [] = ap (hits base region name k) (slots-end (drop (8 * k) s) count k (ltb-false k count q)) ∙ no-slots k in
+          let z : None ≡ Some b = sym (ap firstOf none) ∙ e in
+          apart (cc)
+
+  -- the answer, by the first two hits
+  module _ (count : ℕ) (s : List ℕ) where
+    all : lookedUp base region name (addresses count s) ≡ answerOf (from count s 0)
+    all = let whole : count - 0 ≡ count = omega arith in rw whole
+
+    pub none-found : firstOf (from count s 0) ≡ None → lookedUp base region name (addresses count s) ≡ Refuses NoTable
+    none-found e = all ∙ go (from count s 0) e
+      where
+        go : (l : List Body) → firstOf l ≡ None → answerOf l ≡ Refuses NoTable
+        go [] q = refl
+        go (b ∷ l) q = apart (cc)
+
+    -- the first hit is b
+    module _ (b : Body) (one : firstOf (from count s 0) ≡ Some b) where
+      known : First count s 0 b
+      known = first count s count 0 b (omega arith) one
+
+      pub below-count : b .slot < count
+      below-count = known .below
+
+      pub one-found : firstOf (from count s (b .slot + 1)) ≡ None → lookedUp base region name (addresses count s) ≡ Only b
+      one-found e = all ∙ ap answerOf (known .others) ∙ go (from count s (b .slot + 1)) e
+        where
+          go : (l : List Body) → firstOf l ≡ None → answerOf (b ∷ l) ≡ Only b
+          go [] q = refl
+          go (c ∷ l) q = apart (cc)
+
+      pub two-found : (c : Body) → firstOf (from count s (b .slot + 1)) ≡ Some c → lookedUp base region name (addresses count s) ≡ Refuses TwoTables
+      two-found c e = all ∙ ap answerOf (known .others) ∙ go (from count s (b .slot + 1)) e
+        where
+          go : (l : List Body) → firstOf l ≡ Some c → answerOf (b ∷ l) ≡ Refuses TwoTables
+          go [] q = apart (cc)
+          go (d ∷ l) q = refl
+
+-- 39, the root's refusals, and what is left to the slots
+module _ (base : ℕ) (region : List ℕ) (root : ℕ) (name : List ℕ) where
+  pub bad-name : badName name ≡ true → found base region root name ≡ Refuses BadName
+  unfolding found
+  bad-name e = rw e
+
+  module _ (good : badName name ≡ false) where
+    pub no-root : (reason : Reason) → rootChecked base region root ≡ RootRefused reason → found base region root name ≡ Refuses reason
+    unfolding found
+    no-root reason e = rw (good, e)
+
+    pub in-root : (r : Root) → rootChecked base region root ≡ RootPassed r
+        → found base region root name ≡ lookedUp base region name (slotsOf (tableAt base region root))
+    unfolding found
+    in-root r e = rw (good, e)

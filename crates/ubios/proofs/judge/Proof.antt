@@ -1,0 +1,113 @@
+-- `ubios::judge` meets its contract: at each `return` the tests that led there say which answer it is.
+-- Assumes nothing.
+use Prim.Native.Nat.{ℕ, _-_}
+use mathlib.Core.Bool.{false}
+use mathlib.Core.Path.{_≡_, sym, ap, ap₂, _∙_}
+use mathlib.Core.List.{List}
+use native.Mathlib.Omega.{arith}
+use lib.ListN.{length, take}
+use Rattle.le.specs.Sum.{sum}
+use Rattle.ubios.specs.Layout.{version, totalOf, versionOf, remainingOf, usedOf}
+use Rattle.ubios.specs.Checks.{badSize}
+use Rattle.ubios.specs.declared.Checked.the-variants.{Passed}
+use Rattle.ubios.proofs.Answers.{sized, judged-size, judged-version, judged-sum, judged-passed}
+use borrow.Author.Needs.{needs}
+use Rattle.ubios.proofs.judge.Statement.{statement}
+use Rattle.ubios.proofs.judge.Tie as tie
+
+u32-at-requires : tie.Need-u32-at-requires
+u32-at-requires c κs = search needs
+
+cast-total : tie.Need-cast-total
+cast-total c = search needs
+
+u32-at-requires-2 : tie.Need-u32-at-requires-2
+u32-at-requires-2 c κs = search needs
+
+cast-remaining : tie.Need-cast-remaining
+cast-remaining c = search needs
+
+is-bad-size-requires : tie.Need-is-bad-size-requires
+is-bad-size-requires c κs = search needs
+
+-- past the test of the sizes: the table, and what was read of it
+abbrev start : tie.After-is-bad-size → tie.Start
+start c = c .before .before .before .before
+
+abbrev table : tie.After-is-bad-size → List ℕ
+table c = start c .args .table .now
+
+tested : (c : tie.After-is-bad-size) → c .is-bad-size .result ≡ badSize (start c .args .header) (length (table c)) (totalOf (table c)) (remainingOf (table c))
+tested c =
+    c .is-bad-size .ensures
+    ∙ ap₂ (λ (n r : ℕ). badSize (start c .args .header) (length (table c)) n r) (c .before .before .u32-at .ensures) (c .before .u32-at2 .ensures)
+
+used : (c : tie.After-is-bad-size) → c .before .before .u32-at .result - c .before .u32-at2 .result ≡ usedOf (table c)
+used c = ap₂ _-_ (c .before .before .u32-at .ensures) (c .before .u32-at2 .ensures)
+
+-- the sizes are good
+good : (c : tie.Else1) → badSize (start (c .before) .args .header) (length (table (c .before))) (totalOf (table (c .before))) (remainingOf (table (c .before))) ≡ false
+good c = sym (tested (c .before)) ∙ c .if1 .left
+
+-- and the version
+one : (c : tie.Else2) → versionOf (table (c .before .before .before)) ≡ version
+one c = sym (c .before .u8-at .ensures) ∙ c .if2 .left
+
+-- the sum as it was taken
+summed : (c : tie.After-sum32)
+    → c .sum32 .result ≡ sum 4 (take (usedOf (table (c .before .before .before .before .before))) (table (c .before .before .before .before .before)))
+summed c =
+    let at-size = c .before .before .before .before .before in
+    c .sum32 .ensures ∙ ap (sum 4) (c .before .head .ensures ∙ ap (λ (n : ℕ). take n (table at-size)) (used at-size))
+
+returns : tie.Need-returns
+returns c = sym (judged-size _ _ _ (sym (tested (c .before)) ∙ c .if1 .taken))
+
+u8-at-requires : tie.Need-u8-at-requires
+u8-at-requires c κs = search needs
+
+returns-2 : tie.Need-returns-2
+returns-2 c =
+    sym (judged-version _ _ _ (good (c .before .before)) (λ e. c .if2 .taken (c .before .u8-at .ensures ∙ e)))
+
+sub-used : tie.Need-sub-used
+sub-used c =
+    let at-size = c .before .before .before in
+    let known = sized _ _ _ _ (good (c .before .before)) in
+    rw (at-size .before .before .u32-at .ensures, at-size .before .u32-at2 .ensures) (omega (arith, known .left, known .holds))
+
+head-requires : tie.Need-head-requires
+head-requires c κs = search needs
+
+sum32-requires : tie.Need-sum32-requires
+sum32-requires c κs = search needs
+
+returns-3 : tie.Need-returns-3
+returns-3 c =
+    let version-read = c .before .before .before in
+    sym (judged-sum _ _ _ (good (version-read .before .before)) (one version-read) (λ e. c .if3 .taken (summed (c .before) ∙ e)))
+
+returns-4 : tie.Need-returns-4
+returns-4 c =
+    let version-read = c .before .before .before in
+    let at-size = version-read .before .before .before in
+    ap (λ (n : ℕ). Passed (record { at = start at-size .args .at; used = n })) (used at-size)
+    ∙ sym (judged-passed _ _ _ (good (version-read .before .before)) (one version-read) (sym (summed (c .before)) ∙ c .if3 .left))
+
+pub judge-spec : {M : Type 1} → statement M
+judge-spec =
+    tie.close
+    (tie.spec
+    u32-at-requires
+    cast-total
+    u32-at-requires-2
+    cast-remaining
+    is-bad-size-requires
+    returns
+    u8-at-requires
+    returns-2
+    sub-used
+    head-requires
+    sum32-requires
+    returns-3
+    returns-4)

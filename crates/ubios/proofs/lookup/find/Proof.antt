@@ -1,0 +1,89 @@
+-- `ubios::lookup::find` meets its contract: 39, the root's refusals, and then what its slots lead to.
+-- Assumes nothing.
+use Prim.Native.Nat.{ℕ}
+use mathlib.Core.Bool.{false}
+use mathlib.Core.Path.{_≡_, sym, ap, ap₂, _∙_}
+use mathlib.Core.List.{List}
+use lib.ListN.{drop}
+use Rattle.ubios.specs.Layout.{rootHeader, addresses}
+use Rattle.ubios.specs.Checks.{rootChecked}
+use Rattle.ubios.specs.Lookup.{badName, lookedUp}
+use Rattle.ubios.specs.declared.Table.{Table}
+use Rattle.ubios.specs.declared.RootChecked.the-variants.{Passed}
+use Rattle.ubios.proofs.Answers.{passing, Rooted, rooted, few-slots}
+use Rattle.ubios.proofs.Walking.{bad-name, no-root, in-root}
+use borrow.Author.Needs.{needs}
+use Rattle.ubios.proofs.lookup.find.Statement.{statement}
+use Rattle.ubios.proofs.lookup.find.Tie as tie
+
+is-bad-name-requires : tie.Need-is-bad-name-requires
+is-bad-name-requires c κs = search needs
+
+returns : tie.Need-returns
+returns c =
+    let a = c .before .before .before .before .args in
+    sym (bad-name (a .base) (a .region .now) (a .root) (a .name .now) (sym (c .before .is-bad-name .ensures) ∙ c .if1 .taken))
+
+good : (c : tie.Else1) → badName (c .before .before .before .before .args .name .now) ≡ false
+good c = sym (c .before .is-bad-name .ensures) ∙ c .if1 .left
+
+check-requires : tie.Need-check-requires
+check-requires c κs = search needs
+
+enum-known-reason : tie.Need-enum-known-reason
+enum-known-reason c = search needs
+
+enum-known-r : tie.Need-enum-known-r
+enum-known-r c = search needs
+
+tail-requires : tie.Need-tail-requires
+tail-requires c κs = search needs
+
+tail-requires-2 : tie.Need-tail-requires-2
+tail-requires-2 c κs = search needs
+
+-- where the root passes
+abbrev start : tie.After-tail2 → tie.Start
+start c = c .before .before .before .before .before .before .before .before .before .before .before
+
+passed : (c : tie.After-tail2)
+    → rootChecked (start c .args .base) (start c .args .region .now) (start c .args .root) ≡ Passed (c .before .before .before .before .r .given .0 .0)
+passed c = sym (c .before .before .before .before .before .before .check .ensures) ∙ c .before .before .before .before .r .given .1
+
+known : (c : tie.After-tail2)
+    → Rooted (start c .args .base) (start c .args .region .now) (start c .args .root) (c .before .before .before .before .r .given .0 .0)
+known c = let a = start c .args in rooted (a .base) (a .region .now) (a .root) _ (passed c)
+
+walk-requires : tie.Need-walk-requires
+walk-requires c κs = few-slots _ _ (known c .counted) .0
+
+returns-2 : tie.Need-returns-2
+returns-2 c =
+    let a = c .before .before .before .before .before .before .before .before .args in
+    let refused = sym (c .before .before .before .check .ensures) ∙ c .before .reason .given .1 in
+    sym (no-root (a .base) (a .region .now) (a .root) (a .name .now) (good (c .before .before .before .before)) _ refused)
+
+returns-3 : tie.Need-returns-3
+returns-3 c =
+    let at-root = c .before in
+    let a = start at-root .args in
+    let table-at = ap (λ (t : Table). drop (t .at) (a .region .now)) (passing rootHeader (a .base) (a .region .now) (a .root) _ (known at-root .passes) .is) in
+    let slots = at-root .tail2 .ensures ∙ ap (drop rootHeader) (at-root .before .tail .ensures ∙ table-at) in
+    c .walk .ensures
+    ∙ ap₂ (λ (n : ℕ) (s : List ℕ). lookedUp (a .base) (a .region .now) (a .name .now) (addresses n s)) (known at-root .count) slots
+    ∙ sym (in-root (a .base) (a .region .now) (a .root) (a .name .now) (good (at-root .before .before .before .before .before .before .before)) _ (passed at-root))
+
+pub find-spec : {M : Type 1} → statement M
+find-spec =
+    tie.close
+    (tie.spec
+    is-bad-name-requires
+    returns
+    check-requires
+    enum-known-reason
+    enum-known-r
+    tail-requires
+    tail-requires-2
+    walk-requires
+    returns-2
+    returns-3)

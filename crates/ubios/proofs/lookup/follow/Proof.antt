@@ -1,0 +1,104 @@
+-- `ubios::lookup::follow` meets its contract: a slot leads nowhere if it is a gap, lies before the region, has another name or fails its checks.
+-- Assumes nothing.
+use Prim.Native.Nat.{ℕ}
+use mathlib.Core.Path.{_≡_, sym, ap, _∙_}
+use mathlib.Core.List.{List}
+use borrow.Author.Tests.{not-true, not-false}
+use Rattle.le.specs.Compare.{same}
+use Rattle.ubios.specs.Layout.{tableHeader, nameOf}
+use Rattle.ubios.specs.Checks.{tableAt, checked}
+use Rattle.ubios.specs.declared.Checked.the-variants.{Passed}
+use Rattle.ubios.proofs.Answers.{header-fits, header-used}
+use Rattle.ubios.proofs.Walking.{gap, below-region, other-name, fails, no-hit, hit}
+use borrow.Author.Needs.{needs}
+use Rattle.ubios.proofs.lookup.follow.Statement.{statement}
+use Rattle.ubios.proofs.lookup.follow.Tie as tie
+
+-- the function's entry, seen from the test of the name
+abbrev start : tie.After-same → tie.Start
+start c = c .before .before .before .before .before .before .before
+
+tested : (c : tie.After-same)
+    → c .same .result ≡ same (nameOf (tableAt (start c .args .base) (start c .args .region .now) (start c .args .address))) (start c .args .name .now)
+tested c =
+    c .same .ensures
+    ∙ ap (λ (n : List ℕ). same n (start c .args .name .now)) (c .before .name-of .ensures ∙ ap (λ (t : List ℕ). nameOf t) (c .before .before .tail .ensures))
+
+returns : tie.Need-returns
+returns c =
+    let a = c .before .before .before .args in
+    sym (no-hit (a .base) (a .region .now) (a .name .now) (a .address) (a .slot) (gap (a .base) (a .region .now) (a .name .now) (a .address) (c .if1 .taken)))
+
+returns-2 : tie.Need-returns-2
+returns-2 c =
+    let a = c .before .before .before .before .args in
+    sym (no-hit (a .base) (a .region .now) (a .name .now) (a .address) (a .slot) (below-region (a .base) (a .region .now) (a .name .now) (a .address) (c .if2 .taken)))
+
+tail-requires : tie.Need-tail-requires
+tail-requires c κs = search needs
+
+name-of-requires : tie.Need-name-of-requires
+name-of-requires c κs = search needs
+
+same-requires : tie.Need-same-requires
+same-requires c κs = search needs
+
+returns-3 : tie.Need-returns-3
+returns-3 c =
+    let a = start (c .before) .args in
+    let other = sym (tested (c .before)) ∙ not-true _ (c .if3 .taken) in
+    sym (no-hit (a .base) (a .region .now) (a .name .now) (a .address) (a .slot) (other-name (a .base) (a .region .now) (a .name .now) (a .address) other))
+
+check-requires : tie.Need-check-requires
+check-requires c κs = search needs
+
+enum-told : tie.Need-enum-told
+enum-told c = search needs
+
+enum-known-table : tie.Need-enum-known-table
+enum-known-table c = search needs
+
+-- the table that was found to pass
+abbrev entry : tie.After-struct-known → tie.Start
+entry c = start (c .before .before .before .before .before .before)
+
+passed : (c : tie.After-struct-known)
+    → checked tableHeader (entry c .args .base) (entry c .args .region .now) (entry c .args .address) ≡ Passed (c .before .before .table .given .0 .0)
+passed c = sym (c .before .before .before .before .check .ensures) ∙ c .before .before .table .given .1
+
+add-t15 : tie.Need-add-t15
+add-t15 c = let inside = header-fits tableHeader _ _ _ _ (passed c) in search needs
+
+sub-t16 : tie.Need-sub-t16
+sub-t16 c = header-used tableHeader _ _ _ _ (passed (c .before))
+
+returns-4 : tie.Need-returns-4
+returns-4 c =
+    let at-check = c .before .before in
+    let a = start (at-check .before .before) .args in
+    let failed = sym (at-check .check .ensures) ∙ c .enum-told .given .1 in
+    sym (no-hit (a .base) (a .region .now) (a .name .now) (a .address) (a .slot) (fails (a .base) (a .region .now) (a .name .now) (a .address) _ failed))
+
+returns-5 : tie.Need-returns-5
+returns-5 c =
+    let a = entry (c .before) .args in
+    let at-name = c .before .before .before .before .before .before in
+    sym (hit (a .base) (a .region .now) (a .name .now) (a .address) (a .slot) _ (at-name .before .before .before .before .before .if1 .left) (passed (c .before)) (sym (tested (at-name .before)) ∙ not-false _ (at-name .if3 .left)))
+
+pub follow-spec : {M : Type 1} → statement M
+follow-spec =
+    tie.close
+    (tie.spec
+    returns
+    returns-2
+    tail-requires
+    name-of-requires
+    same-requires
+    returns-3
+    check-requires
+    enum-told
+    enum-known-table
+    add-t15
+    sub-t16
+    returns-4
+    returns-5)

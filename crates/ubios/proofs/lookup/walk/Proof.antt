@@ -1,0 +1,74 @@
+-- `ubios::lookup::walk` meets its contract: the first hit, and whether there is a second, say which answer it is.
+-- Assumes nothing.
+use mathlib.Core.Path.{_≡_, sym, _∙_}
+use Rattle.ubios.specs.Helpers.{firstOf}
+use Rattle.ubios.specs.declared.lookup.Hit.the-variants.{Some}
+use Rattle.ubios.proofs.Walking.{from, none-found, below-count, one-found, two-found}
+use borrow.Author.Needs.{needs}
+use Rattle.ubios.proofs.lookup.walk.Statement.{statement}
+use Rattle.ubios.proofs.lookup.walk.Tie as tie
+
+next-hit-requires : tie.Need-next-hit-requires
+next-hit-requires c κs = search needs
+
+enum-told : tie.Need-enum-told
+enum-told c = search needs
+
+enum-known-first : tie.Need-enum-known-first
+enum-known-first c = search needs
+
+-- where there is a first hit
+abbrev start : tie.After-struct-known → tie.Start
+start c = c .before .before .before .before .before .before .before .before
+
+one : (c : tie.After-struct-known)
+    → firstOf (from (start c .args .base) (start c .args .region .now) (start c .args .name .now) (start c .args .count) (start c .args .slots .now) 0)
+    ≡ Some (c .before .before .first .given .0 .0)
+one c = sym (c .before .before .before .before .next-hit .ensures) ∙ c .before .before .first .given .1
+
+add-next-hit : tie.Need-add-next-hit
+add-next-hit c =
+    let a = start c .args in
+    let below = below-count (a .base) (a .region .now) (a .name .now) (a .count) (a .slots .now) _ (one c) in
+    search needs
+
+next-hit-requires-2 : tie.Need-next-hit-requires-2
+next-hit-requires-2 c κs = search needs
+
+enum-told-2 : tie.Need-enum-told-2
+enum-told-2 c = search needs
+
+enum-told-3 : tie.Need-enum-told-3
+enum-told-3 c = search needs
+
+returns : tie.Need-returns
+returns c =
+    let a = c .before .before .before .before .before .before .args in
+    sym (none-found (a .base) (a .region .now) (a .name .now) (a .count) (a .slots .now) (sym (c .before .before .next-hit .ensures) ∙ c .enum-told .given .1))
+
+returns-2 : tie.Need-returns-2
+returns-2 c =
+    let at-first = c .before .before .before in
+    let a = start at-first .args in
+    sym (one-found (a .base) (a .region .now) (a .name .now) (a .count) (a .slots .now) _ (one at-first) (sym (c .before .before .next-hit2 .ensures) ∙ c .enum-told2 .given .1))
+
+returns-3 : tie.Need-returns-3
+returns-3 c =
+    let at-first = c .before .before .before in
+    let a = start at-first .args in
+    sym (two-found (a .base) (a .region .now) (a .name .now) (a .count) (a .slots .now) _ (one at-first) _ (sym (c .before .before .next-hit2 .ensures) ∙ c .enum-told3 .given .1))
+
+pub walk-spec : {M : Type 1} → statement M
+walk-spec =
+    tie.close
+    (tie.spec
+    next-hit-requires
+    enum-told
+    enum-known-first
+    add-next-hit
+    next-hit-requires-2
+    enum-told-2
+    enum-told-3
+    returns
+    returns-2
+    returns-3)

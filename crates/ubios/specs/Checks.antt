@@ -1,0 +1,82 @@
+-- Document 01, "UBIOS tables": the checks of a table and of the root, in their order. "Memory is a lent region with the address of its first byte."
+-- Assumes nothing.
+use Prim.Native.Nat.{ℕ, _+_, _*_, _-_, _%_, _^_}
+use mathlib.Core.Bool.{Bool, cond, not, _||_}
+use mathlib.Core.List.{List}
+use lib.Dec.{ltb, eqb}
+use lib.ListN.{length, take, drop}
+use Rattle.le.specs.Sum.{sum}
+use Rattle.le.specs.Compare.{same}
+use Rattle.ubios.specs.Layout.{rootHeader, totalMax, countMax, version, nameOf, totalOf, versionOf, remainingOf, usedOf, rootName, countOf}
+use Rattle.ubios.specs.declared.Table.{Table}
+use Rattle.ubios.specs.declared.Reason.{Reason}
+use Rattle.ubios.specs.declared.Reason.the-variants.{Outside, Misaligned, BadSize, WrongVersion, WrongSum, NotRoot, BadCount, NoTable, TwoTables, BadName}
+use Rattle.ubios.specs.declared.Checked.{Checked}
+use Rattle.ubios.specs.declared.Checked.the-variants.{Passed, Refused as Failed}
+use Rattle.ubios.specs.declared.RootChecked.{RootChecked}
+use Rattle.ubios.specs.declared.RootChecked.the-variants.{Passed as RootPassed, Refused as RootFailed}
+
+abbrev pub numberOf : Reason → ℕ
+numberOf Outside = 30
+numberOf Misaligned = 31
+numberOf BadSize = 32
+numberOf WrongVersion = 33
+numberOf WrongSum = 34
+numberOf NotRoot = 35
+numberOf BadCount = 36
+numberOf NoTable = 37
+numberOf TwoTables = 38
+numberOf BadName = 39
+
+-- what stands in the region from an address on
+abbrev pub tableAt : ℕ → List ℕ → ℕ → List ℕ
+tableAt base region address = drop (address - base) region
+
+-- 30: "region runs past 2^64, or the header isn't inside it". All sums are of exact numbers; a region that ends at 2^64 is one
+unfoldable pub outside : ℕ → ℕ → ℕ → ℕ → Bool
+outside header base size address =
+    ltb (2 ^ 64) (base + size)
+    || (ltb address base || ltb (base + size) (address + header))
+
+-- 32: "Total under the header, over 65,536 or past the region, or Remaining over Total − header"
+-- `size` is how much of the region there is from the table's first byte on
+unfoldable pub badSize : ℕ → ℕ → ℕ → ℕ → Bool
+badSize header size total remaining =
+    ltb total header
+    || (ltb totalMax total
+    || (ltb size total
+    || ltb (total - header) remaining))
+
+-- 32, 33 and 34, of the table t that stands at that place of the region
+unfoldable pub judged : ℕ → ℕ → List ℕ → Checked
+judged header at t =
+    cond (badSize header (length t) (totalOf t) (remainingOf t)) (Failed BadSize)
+    (cond (not (eqb (versionOf t) version)) (Failed WrongVersion)
+    (cond (not (eqb (sum 4 (take (usedOf t) t)) 0)) (Failed WrongSum)
+    (Passed (record { at = at; used = usedOf t }))))
+
+-- what the checks of a table with a header of that size answer: where it stands in the region, and how long its used part is
+unfoldable pub checked : ℕ → ℕ → List ℕ → ℕ → Checked
+checked header base region address =
+    cond (not (eqb (address % 8) 0)) (Failed Misaligned)
+    (cond (outside header base (length region) address) (Failed Outside)
+    (judged header (address - base) (tableAt base region address)))
+
+-- "Count over 128, or 40 + 8 × Count over the used part"
+abbrev pub badCount : ℕ → ℕ → Bool
+badCount used count = ltb countMax count || ltb used (rootHeader + 8 * count)
+
+-- 35 and 36, of a root that passes the checks of a table
+unfoldable pub rootJudged : Table → List ℕ → RootChecked
+rootJudged table t =
+    cond (not (same (nameOf t) rootName)) (RootFailed NotRoot)
+    (cond (badCount (table .used) (countOf t)) (RootFailed BadCount)
+    (RootPassed (record { table = table; count = countOf t })))
+
+abbrev pub rootAfter : Checked → List ℕ → RootChecked
+rootAfter (Failed reason) t = RootFailed reason
+rootAfter (Passed table) t = rootJudged table t
+
+-- what the checks of the root answer
+unfoldable pub rootChecked : ℕ → List ℕ → ℕ → RootChecked
+rootChecked base region address = rootAfter (checked rootHeader base region address) (tableAt base region address)

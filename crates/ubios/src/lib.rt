@@ -1,0 +1,204 @@
+// UBIOS tables (T/GCC 3007-2025, tables 12 and 13): the checks of a table and of the root table, and the
+// look-up of a table by its name. Memory is a lent region and the address of its first byte; any region and
+// any addresses get an answer.
+pub mod lookup;
+mod name;
+
+use name::name_of;
+ghost use mathlib.Core.Path.{_≡_};
+ghost use Prim.Native.Nat.{_+_, _^_};
+ghost use lib.Dec.{ltb};
+ghost use Rattle.ubios.specs.Layout.{tableHeader};
+ghost use Rattle.ubios.specs.Checks.{numberOf, outside, badSize, judged, checked, rootJudged, rootChecked};
+
+// A table that passes its checks: where it stands in the region, and the length of its used part.
+pub struct Table {
+    pub at: usize,
+    pub used: usize,
+}
+
+// A root table that passes its checks, and how many slots it has.
+pub struct Root {
+    pub table: Table,
+    pub count: usize,
+}
+
+// Why a table, a root or a look-up is refused.
+pub enum Reason {
+    // 30: the region runs past 2^64, or the header is not inside it.
+    Outside,
+    // 31: the address is not a multiple of 8.
+    Misaligned,
+    // 32: Total Size or Remaining Size is not legal.
+    BadSize,
+    // 33: Version is not 1.
+    WrongVersion,
+    // 34: the used part does not sum to 0.
+    WrongSum,
+    // 35: the root's name is another.
+    NotRoot,
+    // 36: Count is over 128, or more than the used part holds.
+    BadCount,
+    // 37: no slot leads to a passing table of the name.
+    NoTable,
+    // 38: two slots or more do.
+    TwoTables,
+    // 39: the sought name is empty, over 16 bytes, or has a zero byte.
+    BadName,
+}
+
+pub enum Checked {
+    Passed(Table),
+    Refused(Reason),
+}
+
+pub enum RootChecked {
+    Passed(Root),
+    Refused(Reason),
+}
+
+impl Reason {
+    // The refusal's number.
+    pub fn number(self) -> u32
+        ensures { λ r. ⌜ r ≡ numberOf self ⌝ }
+    {
+        match self {
+            Reason::Outside => 30,
+            Reason::Misaligned => 31,
+            Reason::BadSize => 32,
+            Reason::WrongVersion => 33,
+            Reason::WrongSum => 34,
+            Reason::NotRoot => 35,
+            Reason::BadCount => 36,
+            Reason::NoTable => 37,
+            Reason::TwoTables => 38,
+            Reason::BadName => 39,
+        }
+    }
+}
+
+// Whether a region runs past 2^64. The sum of base and size is not taken, so it cannot wrap.
+fn runs_past(base: u64, size: usize) -> bool
+    ensures { λ r. ⌜ r ≡ ltb (2 ^ 64) (base + size) ⌝ }
+{
+    if size == 0 {
+        return false;
+    }
+    u64::MAX - base < size as u64 - 1
+}
+
+// Whether the region runs past 2^64, or does not hold `header` bytes from the address on.
+fn is_outside(header: usize, base: u64, size: usize, address: u64) -> bool
+    ensures { λ r. ⌜ r ≡ outside header base size address ⌝ }
+{
+    if runs_past(base, size) {
+        return true;
+    }
+    if address < base {
+        return true;
+    }
+    let at = address - base;
+    if (size as u64) < at {
+        return true;
+    }
+    size as u64 - at < header as u64
+}
+
+// Whether Total Size or Remaining Size is not legal in a table that has `size` bytes of the region.
+fn is_bad_size(header: usize, size: usize, total: usize, remaining: usize) -> bool
+    ensures { λ r. ⌜ r ≡ badSize header size total remaining ⌝ }
+{
+    if total < header {
+        return true;
+    }
+    if Table::TOTAL_MAX < total {
+        return true;
+    }
+    if size < total {
+        return true;
+    }
+    total - header < remaining
+}
+
+// 32, 33 and 34, of the table that stands at that place of the region.
+fn judge(header: usize, at: usize, table: &[u8]) -> Checked
+    ensures { λ r. ⌜ r ≡ judged header at (now (table .entry)) ⌝ }
+{
+    let total = le::word::u32_at(table, 16) as usize;
+    let remaining = le::word::u32_at(table, 24) as usize;
+    if is_bad_size(header, table.len(), total, remaining) {
+        return Checked::Refused(Reason::BadSize);
+    }
+    if le::word::u8_at(table, 20) != Table::VERSION {
+        return Checked::Refused(Reason::WrongVersion);
+    }
+    let used = total - remaining;
+    if le::sum::sum32(le::head(table, used)) != 0 {
+        return Checked::Refused(Reason::WrongSum);
+    }
+    Checked::Passed(Table { at, used })
+}
+
+// The checks of a table with a header of that size.
+fn check(header: usize, region: &[u8], base: u64, address: u64) -> Checked
+    ensures { λ r. ⌜ r ≡ checked header base (now (region .entry)) address ⌝ }
+{
+    if address % 8 != 0 {
+        return Checked::Refused(Reason::Misaligned);
+    }
+    if is_outside(header, base, region.len(), address) {
+        return Checked::Refused(Reason::Outside);
+    }
+    let at = (address - base) as usize;
+    judge(header, at, le::tail(region, at))
+}
+
+impl Table {
+    pub const HEADER: usize = 32;
+    // The largest Total Size.
+    pub const TOTAL_MAX: usize = 65536;
+
+    pub const VERSION: u8 = 1;
+
+    // The table at an address, or the first reason to refuse it.
+    pub fn check(region: &[u8], base: u64, address: u64) -> Checked
+        ensures { λ r. ⌜ r ≡ checked tableHeader base (now (region .entry)) address ⌝ }
+    {
+        check(Self::HEADER, region, base, address)
+    }
+}
+
+impl Root {
+    pub const HEADER: usize = 40;
+    // The most slots, and the size of each.
+    pub const COUNT_MAX: usize = 128;
+
+    pub const SLOT: usize = 8;
+
+    // 35 and 36, of a root that passes the checks of a table.
+    fn judge(table: Table, root: &[u8]) -> RootChecked
+        ensures { λ r. ⌜ r ≡ rootJudged table (now (root .entry)) ⌝ }
+    {
+        if !le::same(name_of(root), b"root_table") {
+            return RootChecked::Refused(Reason::NotRoot);
+        }
+        let count = le::word::u16_at(root, 32) as usize;
+        if Self::COUNT_MAX < count {
+            return RootChecked::Refused(Reason::BadCount);
+        }
+        if table.used < Self::HEADER + Self::SLOT * count {
+            return RootChecked::Refused(Reason::BadCount);
+        }
+        RootChecked::Passed(Root { table, count })
+    }
+
+    // The root table at an address, or the first reason to refuse it.
+    pub fn check(region: &[u8], base: u64, address: u64) -> RootChecked
+        ensures { λ r. ⌜ r ≡ rootChecked base (now (region .entry)) address ⌝ }
+    {
+        match check(Self::HEADER, region, base, address) {
+            Checked::Refused(reason) => RootChecked::Refused(reason),
+            Checked::Passed(table) => Self::judge(table, le::tail(region, table.at)),
+        }
+    }
+}
