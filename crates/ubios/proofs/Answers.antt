@@ -7,11 +7,11 @@ use mathlib.Core.List.{List}
 use borrow.Author.Tests.{lt-ltb, le-ltb, eq-eqb, ne-eqb, ltb-false, eqb-true, eqb-false}
 use native.Mathlib.Omega.{arith}
 use lib.Dec.{ltb, eqb}
-use lib.ListN.{length, take}
+use lib.ListN.{length}
 use Rattle.le.specs.Compare.{same}
 use Rattle.le.specs.Sum.{sum}
 use Rattle.le.proofs.Tests.{apart, neither, agree}
-use Rattle.ubios.specs.Layout.{rootHeader, totalMax, countMax, version, nameOf, totalOf, versionOf, remainingOf, usedOf, rootName, countOf}
+use Rattle.ubios.specs.Layout.{rootHeader, totalMax, countMax, version, nameOf, totalOf, versionOf, remainingOf, usedOf, summedPart, rootName, countOf}
 use Rattle.ubios.specs.Checks.{tableAt, outside, badSize, judged, checked, badCount, rootJudged, rootChecked}
 use Rattle.ubios.specs.declared.Table.{Table}
 use Rattle.ubios.specs.declared.Root.{Root}
@@ -121,13 +121,13 @@ module _ (header at : ℕ) (t : List ℕ) where
     judged-version ne = rw (size, ne-eqb (versionOf t) version ne)
 
     module _ (one : versionOf t ≡ version) where
-      pub judged-sum : (sum 4 (take (usedOf t) t) ≡ 0 → ⊥) → judged header at t ≡ Refused WrongSum
+      pub judged-sum : (sum 4 (summedPart t) ≡ 0 → ⊥) → judged header at t ≡ Refused WrongSum
       unfolding judged
-      judged-sum ne = rw (size, eq-eqb (versionOf t) version one, ne-eqb (sum 4 (take (usedOf t) t)) 0 ne)
+      judged-sum ne = rw (size, eq-eqb (versionOf t) version one, ne-eqb (sum 4 (summedPart t)) 0 ne)
 
-      pub judged-passed : sum 4 (take (usedOf t) t) ≡ 0 → judged header at t ≡ Passed (record { at = at; used = usedOf t })
+      pub judged-passed : sum 4 (summedPart t) ≡ 0 → judged header at t ≡ Passed (record { at = at; used = usedOf t })
       unfolding judged
-      judged-passed e = rw (size, eq-eqb (versionOf t) version one, eq-eqb (sum 4 (take (usedOf t) t)) 0 e)
+      judged-passed e = rw (size, eq-eqb (versionOf t) version one, eq-eqb (sum 4 (summedPart t)) 0 e)
 
 -- 31, 30, and what is left to them
 module _ (header base : ℕ) (region : List ℕ) (address : ℕ) where
@@ -151,7 +151,7 @@ pub record Passing (header base : ℕ) (region : List ℕ) (address : ℕ) (tabl
   pub inside : Inside header base (length region) address
   pub sized : Sized header (length (tableAt base region address)) (totalOf (tableAt base region address)) (remainingOf (tableAt base region address))
   pub one : versionOf (tableAt base region address) ≡ version
-  pub zero : sum 4 (take (usedOf (tableAt base region address)) (tableAt base region address)) ≡ 0
+  pub zero : sum 4 (summedPart (tableAt base region address)) ≡ 0
   pub is : table ≡ record { at = address - base; used = usedOf (tableAt base region address) }
 
 pub passing : (header base : ℕ) (region : List ℕ) (address : ℕ) (table : Table) → checked header base region address ≡ Passed table → Passing header base region address table
@@ -161,9 +161,9 @@ passing header base region address table e = by-aligned (eqb (address % 8) 0) re
     t = tableAt base region address
 
     by-sum : address % 8 ≡ 0 → outside header base (length region) address ≡ false → badSize header (length t) (totalOf t) (remainingOf t) ≡ false
-        → versionOf t ≡ version → (b : Bool) → eqb (sum 4 (take (usedOf t) t)) 0 ≡ b → Passing header base region address table
+        → versionOf t ≡ version → (b : Bool) → eqb (sum 4 (summedPart t)) 0 ≡ b → Passing header base region address table
     by-sum a o s v true q =
-        let zero = eqb-true (sum 4 (take (usedOf t) t)) 0 q in
+        let zero = eqb-true (sum 4 (summedPart t)) 0 q in
         let all = is-inside header base region address a o ∙ judged-passed header (address - base) t s v zero in
         record {
           aligned = a;
@@ -174,11 +174,11 @@ passing header base region address table e = by-aligned (eqb (address % 8) 0) re
           is = cc;
         }
     by-sum a o s v false q =
-        let all = is-inside header base region address a o ∙ judged-sum header (address - base) t s v (eqb-false (sum 4 (take (usedOf t) t)) 0 q) in apart (cc)
+        let all = is-inside header base region address a o ∙ judged-sum header (address - base) t s v (eqb-false (sum 4 (summedPart t)) 0 q) in apart (cc)
 
     by-version : address % 8 ≡ 0 → outside header base (length region) address ≡ false → badSize header (length t) (totalOf t) (remainingOf t) ≡ false
         → (b : Bool) → eqb (versionOf t) version ≡ b → Passing header base region address table
-    by-version a o s true q = by-sum a o s (eqb-true (versionOf t) version q) (eqb (sum 4 (take (usedOf t) t)) 0) refl
+    by-version a o s true q = by-sum a o s (eqb-true (versionOf t) version q) (eqb (sum 4 (summedPart t)) 0) refl
     by-version a o s false q =
         let all = is-inside header base region address a o ∙ judged-version header (address - base) t s (eqb-false (versionOf t) version q) in apart (cc)
 

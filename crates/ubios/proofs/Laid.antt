@@ -11,7 +11,7 @@ use Rattle.le.specs.Word.{word, bytes}
 use Rattle.le.specs.Sum.{sum}
 use Rattle.le.proofs.Words.{word-bytes, word-one, length-bytes}
 use Rattle.le.proofs.Sums.{checksum}
-use Rattle.ubios.specs.Layout.{tableHeader, totalMax, nameMax, version, totalOf, versionOf, remainingOf, usedOf}
+use Rattle.ubios.specs.Layout.{tableHeader, totalMax, nameMax, version, totalOf, versionOf, remainingOf, usedOf, summedPart}
 use Rattle.ubios.specs.Checks.{badSize, judged}
 use Rattle.ubios.specs.Statements.{headOf, checksumOf, tableOf, LaidPasses}
 use Rattle.ubios.specs.declared.Checked.the-variants.{Passed}
@@ -83,7 +83,7 @@ module _ (header base : ℕ) (front field : List ℕ) (remaining : ℕ) (body re
   used-is : usedOf table ≡ tableHeader + length body
   used-is = rw (total-read, remaining-read) (omega arith)
 
-  sums : sum 4 (take (usedOf table) table) ≡ 0
+  sums : sum 4 (summedPart table) ≡ 0
   sums =
       ap (λ (n : ℕ). sum 4 (take n table)) used-is
       ∙ ap (sum 4) (take-at (tableOf field remaining body) rest (tableHeader + length body) table-length)

@@ -13,7 +13,7 @@ use Rattle.le.specs.Compare.{same}
 use Rattle.le.proofs.Tests.{apart}
 use Rattle.ubios.specs.Layout.{tableHeader, nameOf, usedOf, slotsOf}
 use Rattle.ubios.specs.Checks.{tableAt, checked, rootChecked}
-use Rattle.ubios.specs.Lookup.{badName, passes, leads, bodyAt, hits, answerOf, lookedUp, found}
+use Rattle.ubios.specs.Lookup.{badName, passes, leads, bodyOf, bodyAt, hits, answerOf, lookedUp, found}
 use Rattle.ubios.specs.Statements.{NoneLeads, OnlyOne, FoundOnly, OnlyFound, BehindGap, SameTables, movedOn, GapAdded, BodyInside, BodyBytes}
 use Rattle.ubios.specs.declared.Table.{Table}
 use Rattle.ubios.specs.declared.RootChecked.{RootChecked}
@@ -21,7 +21,7 @@ use Rattle.ubios.specs.declared.RootChecked.the-variants.{Passed as Root
 use Rattle.ubios.specs.declared.lookup.Body.{Body}
 use Rattle.ubios.specs.declared.lookup.Found.the-variants.{Only}
 use Rattle.ubios.proofs.Answers.{passing}
-use Rattle.ubios.proofs.Walking.{gap, led, no-slots, passes-over, meets, bad-name, no-root, in-root}
+use Rattle.ubios.proofs.Walking.{at-gap, led, no-slots, passes-over, meets, bad-name, no-root, in-root}
 
 -- what is equal in equal lists and equal answers
 cons-head : {b c : Body} {l m : List Body} → b ∷ l ≡ c ∷ m → b ≡ c
@@ -154,7 +154,7 @@ pub behind-gap : BehindGap
 behind-gap base region root name r before between address after good passed slots h hb hm ha =
     let front = before ++ (0 ∷ between) in
     let none : NoneLeads base region name front =
-    none-joined base region name before (0 ∷ between) hb (gap base region name 0 refl, hm) in
+    none-joined base region name before (0 ∷ between) hb (at-gap base region name 0 refl, hm) in
     in-root base region root name good r passed
     ∙ ap (lookedUp base region name) (slots ∙ sym (append-assoc before (0 ∷ between) (address ∷ after)))
     ∙ one-of-all base region name front address after none h ha
@@ -174,7 +174,7 @@ module _ (base : ℕ) (region region′ name : List ℕ) (a : ℕ)
       let here = passing tableHeader base region a (l .table) (l .passes) .is in
       let there = passing tableHeader base region′ a (l .table) (sym check ∙ l .passes) .is in
       let used : usedOf (tableAt base region′ a) ≡ usedOf (tableAt base region a) = ap (λ (t : Table). t .used) (sym there ∙ here) in
-      ap (λ (n : ℕ). record { slot = k; at = a - base + tableHeader; length = n - tableHeader }) used
+      ap (λ (n : ℕ). bodyOf k (record { at = a - base; used = n })) used
 
 same-hits : (base : ℕ) (region region′ name : List ℕ) (k : ℕ) (slots : List ℕ) → SameTables base region region′ slots
     → hits base region′ name k slots ≡ hits base region name k slots
@@ -216,7 +216,7 @@ module _ (base : ℕ) (region name : List ℕ) (n : ℕ) where
   gap-hits : (k : ℕ) (before after : List ℕ) → k + length before ≡ n
       → hits base region name k (before ++ (0 ∷ after)) ≡ map (later n) (hits base region name k (before ++ after))
   gap-hits k [] after h =
-      passes-over base region name k 0 after (gap base region name 0 refl) ∙ sym (move k after (omega arith))
+      passes-over base region name k 0 after (at-gap base region name 0 refl) ∙ sym (move k after (omega arith))
   gap-hits k (a ∷ before) after h = go (leads base region name a) refl (gap-hits (suc k) before after (omega arith))
     where
       go : (t : Bool) → leads base region name a ≡ t

@@ -4,23 +4,23 @@ use Prim.Native.Nat.{ℕ, zero, suc, _+_, _*_, _-_, _≤_, _<_}
 use mathlib.Core.Bool.{Bool, true, false, cond, not, _&&_}
 use mathlib.Core.Path.{_≡_, refl, sym, ap, _∙_}
 use mathlib.Core.List.{List, [], _∷_}
-use borrow.Author.Tests.{ne-eqb, ltb-true, ltb-false}
+use borrow.Author.Tests.{ltb-true, ltb-false}
 use native.Mathlib.Numerals.{add-one}
 use native.Mathlib.Omega.{arith}
-use lib.Dec.{ltb, eqb}
+use lib.Dec.{ltb}
 use lib.ListN.{length, drop}
 use lib.Seq.{drop-drop}
 use Rattle.le.specs.Word.{word}
 use Rattle.le.specs.Compare.{same}
 use Rattle.le.proofs.Tests.{apart, both}
-use Rattle.ubios.specs.Layout.{tableHeader, nameOf, addresses, slotsOf}
+use Rattle.ubios.specs.Layout.{tableHeader, nameOf, isGap, addresses, slotsOf}
 use Rattle.ubios.specs.Checks.{tableAt, checked, rootChecked}
-use Rattle.ubios.specs.Lookup.{badName, passes, leads, bodyAt, hits, answerOf, lookedUp, found}
+use Rattle.ubios.specs.Lookup.{badName, passes, leads, bodyOf, bodyAt, hits, answerOf, lookedUp, found}
 use Rattle.ubios.specs.Helpers.{hitOf, firstOf}
 use Rattle.ubios.specs.declared.Table.{Table}
 use Rattle.ubios.specs.declared.Root.{Root}
 use Rattle.ubios.specs.declared.Reason.{Reason}
-use Rattle.ubios.specs.declared.Reason.the-variants.{NoTable, TwoTables, BadName}
+use Rattle.ubios.specs.declared.Reason.the-variants.{NoTable, BadName}
 use Rattle.ubios.specs.declared.Checked.{Checked}
 use Rattle.ubios.specs.declared.Checked.the-variants.{Passed, Refused}
 use Rattle.ubios.specs.declared.RootChecked.the-variants.{Passed as RootPassed, Refused as RootRefused}
@@ -31,13 +31,13 @@ use Rattle.ubios.proofs.Answers.{passing}
 
 -- which slots lead to a passing table of the name
 module _ (base : ℕ) (region name : List ℕ) (address : ℕ) where
-  pub gap : address ≡ 0 → leads base region name address ≡ false
+  pub at-gap : isGap address ≡ true → leads base region name address ≡ false
   unfolding leads
-  gap e = rw e
+  at-gap e = rw e
 
   pub other-name : same (nameOf (tableAt base region address)) name ≡ false → leads base region name address ≡ false
   unfolding leads
-  other-name e = rw e (neither-way (not (eqb address 0)) (passes (checked tableHeader base region address)))
+  other-name e = rw e (neither-way (not (isGap address)) (passes (checked tableHeader base region address)))
     where
       neither-way : (a b : Bool) → a && (b && false) ≡ false
       neither-way true true = refl
@@ -46,7 +46,7 @@ module _ (base : ℕ) (region name : List ℕ) (address : ℕ) where
 
   pub fails : (reason : Reason) → checked tableHeader base region address ≡ Refused reason → leads base region name address ≡ false
   unfolding leads
-  fails reason e = rw e (go (not (eqb address 0)))
+  fails reason e = rw e (go (not (isGap address)))
     where
       go : (a : Bool) → a && false ≡ false
       go true = refl
@@ -59,10 +59,10 @@ module _ (base : ℕ) (region name : List ℕ) (address : ℕ) where
       go (Passed t) e = absurd (omega (arith, passing tableHeader base region address t e .inside .start))
       go (Refused reason) e = fails reason e
 
-  pub leads-there : (table : Table) → (address ≡ 0 → ⊥) → checked tableHeader base region address ≡ Passed table
+  pub leads-there : (table : Table) → isGap address ≡ false → checked tableHeader base region address ≡ Passed table
       → same (nameOf (tableAt base region address)) name ≡ true → leads base region name address ≡ true
   unfolding leads
-  leads-there table ne e named = rw (ne-eqb address 0 ne, e, named)
+  leads-there table ne e named = rw (ne, e, named)
 
   -- what is known of a slot that does
   pub record Led : Type 0 where
@@ -73,7 +73,7 @@ module _ (base : ℕ) (region name : List ℕ) (address : ℕ) where
   pub led : leads base region name address ≡ true → Led
   unfolding leads
   led e =
-      let p = both (not (eqb address 0)) _ e in
+      let p = both (not (isGap address)) _ e in
       let q = both (passes (checked tableHeader base region address)) _ (p .1) in
       go (checked tableHeader base region address) refl (q .0) (q .1)
     where
@@ -85,12 +85,12 @@ module _ (base : ℕ) (region name : List ℕ) (address : ℕ) where
     pub no-hit : leads base region name address ≡ false → hitOf base region name slot address ≡ None
     no-hit e = rw e
 
-    pub hit : (table : Table) → (address ≡ 0 → ⊥) → checked tableHeader base region address ≡ Passed table
+    pub hit : (table : Table) → isGap address ≡ false → checked tableHeader base region address ≡ Passed table
         → same (nameOf (tableAt base region address)) name ≡ true
-        → hitOf base region name slot address ≡ Some (record { slot = slot; at = table .at + tableHeader; length = table .used - tableHeader })
+        → hitOf base region name slot address ≡ Some (bodyOf slot table)
     hit table ne e named =
         rw (leads-there table ne e named)
-        (ap (λ (t : Table). Some (record { slot = slot; at = t .at + tableHeader; length = t .used - tableHeader })) (sym (passing tableHeader base region address table e .is)))
+        (ap (λ (t : Table). Some (bodyOf slot t)) (sym (passing tableHeader base region address table e .is)))
 
 some-inj : {a b : Body} → Some a ≡ Some b → a ≡ b
 some-inj e = cc
@@ -214,10 +214,10 @@ module _ (base : ℕ) (region name : List ℕ) where
           go [] q = refl
           go (c ∷ l) q = apart (cc)
 
-      pub two-found : (c : Body) → firstOf (from count s (b .slot + 1)) ≡ Some c → lookedUp base region name (addresses count s) ≡ Refuses TwoTables
+      pub two-found : (c : Body) → firstOf (from count s (b .slot + 1)) ≡ Some c → lookedUp base region name (addresses count s) ≡ answerOf (b ∷ c ∷ [])
       two-found c e = all ∙ ap answerOf (known .others) ∙ go (from count s (b .slot + 1)) e
         where
-          go : (l : List Body) → firstOf l ≡ Some c → answerOf (b ∷ l) ≡ Refuses TwoTables
+          go : (l : List Body) → firstOf l ≡ Some c → answerOf (b ∷ l) ≡ answerOf (b ∷ c ∷ [])
           go [] q = apart (cc)
           go (d ∷ l) q = refl
 

@@ -4,10 +4,10 @@ use Prim.Native.Nat.{ℕ, _+_, _*_, _-_, _%_, _^_}
 use mathlib.Core.Bool.{Bool, cond, not, _||_}
 use mathlib.Core.List.{List}
 use lib.Dec.{ltb, eqb}
-use lib.ListN.{length, take, drop}
+use lib.ListN.{length, drop}
 use Rattle.le.specs.Sum.{sum}
 use Rattle.le.specs.Compare.{same}
-use Rattle.ubios.specs.Layout.{rootHeader, totalMax, countMax, version, nameOf, totalOf, versionOf, remainingOf, usedOf, rootName, countOf}
+use Rattle.ubios.specs.Layout.{rootHeader, totalMax, countMax, version, nameOf, totalOf, versionOf, remainingOf, usedOf, summedPart, rootName, countOf}
 use Rattle.ubios.specs.declared.Table.{Table}
 use Rattle.ubios.specs.declared.Reason.{Reason}
 use Rattle.ubios.specs.declared.Reason.the-variants.{Outside, Misaligned, BadSize, WrongVersion, WrongSum, NotRoot, BadCount, NoTable, TwoTables, BadName}
@@ -52,7 +52,7 @@ unfoldable pub judged : ℕ → ℕ → List ℕ → Checked
 judged header at t =
     cond (badSize header (length t) (totalOf t) (remainingOf t)) (Failed BadSize)
     (cond (not (eqb (versionOf t) version)) (Failed WrongVersion)
-    (cond (not (eqb (sum 4 (take (usedOf t) t)) 0)) (Failed WrongSum)
+    (cond (not (eqb (sum 4 (summedPart t)) 0)) (Failed WrongSum)
     (Passed (record { at = at; used = usedOf t }))))
 
 -- what the checks of a table with a header of that size answer: where it stands in the region, and how long its used part is

@@ -1,7 +1,7 @@
 -- Document 01, "UBIOS tables" (001, tables 12 and 13): the words of a table and of the root. A table is the bytes of memory from its address on.
 -- Assumes nothing.
 use Prim.Native.Nat.{ℕ, zero, suc, _-_}
-use mathlib.Core.Bool.{cond}
+use mathlib.Core.Bool.{Bool, cond}
 use mathlib.Core.List.{List, [], _∷_}
 use lib.Dec.{eqb}
 use lib.ListN.{take, drop}
@@ -48,12 +48,20 @@ remainingOf t = word 4 (drop 24 t)
 abbrev pub usedOf : List ℕ → ℕ
 usedOf t = totalOf t - remainingOf t
 
+-- what is summed: "Summing Total instead of the used part" is a trap
+abbrev pub summedPart : List ℕ → List ℕ
+summedPart t = take (usedOf t) t
+
 -- `root_table`
 abbrev pub rootName : List ℕ
 rootName = 0x72 ∷ 0x6F ∷ 0x6F ∷ 0x74 ∷ 0x5F ∷ 0x74 ∷ 0x61 ∷ 0x62 ∷ 0x6C ∷ 0x65 ∷ []
 
 abbrev pub countOf : List ℕ → ℕ
 countOf t = word 2 (drop 32 t)
+
+-- "A slot of 0 is a gap, anywhere, and is passed over."
+abbrev pub isGap : ℕ → Bool
+isGap address = eqb address 0
 
 -- the first n addresses of 8 bytes
 unfoldable pub addresses : ℕ → List ℕ → List ℕ

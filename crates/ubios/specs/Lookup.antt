@@ -6,8 +6,9 @@ use mathlib.Core.List.{List, [], _∷_}
 use lib.Dec.{ltb, eqb}
 use lib.ListN.{length}
 use Rattle.le.specs.Compare.{same}
-use Rattle.ubios.specs.Layout.{tableHeader, nameMax, upToZero, nameOf, usedOf, slotsOf}
+use Rattle.ubios.specs.Layout.{tableHeader, nameMax, upToZero, nameOf, usedOf, isGap, slotsOf}
 use Rattle.ubios.specs.Checks.{tableAt, checked, rootChecked}
+use Rattle.ubios.specs.declared.Table.{Table}
 use Rattle.ubios.specs.declared.lookup.Body.{Body}
 use Rattle.ubios.specs.declared.Reason.the-variants.{NoTable, TwoTables, BadName}
 use Rattle.ubios.specs.declared.Checked.{Checked}
@@ -31,13 +32,15 @@ passes (Failed reason) = false
 -- whether a slot with that address leads to a passing table of the name: "A slot of 0 is a gap", "A slot whose table fails its checks counts as none."
 unfoldable pub leads : ℕ → List ℕ → List ℕ → ℕ → Bool
 leads base region name address =
-    not (eqb address 0)
+    not (isGap address)
     && (passes (checked tableHeader base region address) && same (nameOf (tableAt base region address)) name)
 
 -- "the slot, counted from 0, and the body's place and length in the region: used part from byte 32 on"
+abbrev pub bodyOf : ℕ → Table → Body
+bodyOf slot table = record { slot = slot; at = table .at + tableHeader; length = table .used - tableHeader }
+
 abbrev pub bodyAt : ℕ → List ℕ → ℕ → ℕ → Body
-bodyAt base region slot address =
-    record { slot = slot; at = address - base + tableHeader; length = usedOf (tableAt base region address) - tableHeader }
+bodyAt base region slot address = bodyOf slot (record { at = address - base; used = usedOf (tableAt base region address) })
 
 -- the bodies of all slots that lead to a passing table of the name; the slots are counted from k on
 unfoldable pub hits : ℕ → List ℕ → List ℕ → ℕ → List ℕ → List Body

@@ -5,9 +5,9 @@ use mathlib.Core.Bool.{false}
 use mathlib.Core.Path.{_≡_, sym, ap, ap₂, _∙_}
 use mathlib.Core.List.{List}
 use native.Mathlib.Omega.{arith}
-use lib.ListN.{length, take}
+use lib.ListN.{length}
 use Rattle.le.specs.Sum.{sum}
-use Rattle.ubios.specs.Layout.{version, totalOf, versionOf, remainingOf, usedOf}
+use Rattle.ubios.specs.Layout.{version, totalOf, versionOf, remainingOf, usedOf, summedPart}
 use Rattle.ubios.specs.Checks.{badSize}
 use Rattle.ubios.specs.declared.Checked.the-variants.{Passed}
 use Rattle.ubios.proofs.Answers.{sized, judged-size, judged-version, judged-sum, judged-passed}
@@ -54,11 +54,13 @@ one : (c : tie.Else2) → versionOf (table (c .before .before .before)) ≡ vers
 one c = sym (c .before .u8-at .ensures) ∙ c .if2 .left
 
 -- the sum as it was taken
-summed : (c : tie.After-sum32)
-    → c .sum32 .result ≡ sum 4 (take (usedOf (table (c .before .before .before .before .before))) (table (c .before .before .before .before .before)))
+summed : (c : tie.After-sum32) → c .sum32 .result ≡ sum 4 (summedPart (table (c .before .before .before .before .before)))
 summed c =
     let at-size = c .before .before .before .before .before in
-    c .sum32 .ensures ∙ ap (sum 4) (c .before .head .ensures ∙ ap (λ (n : ℕ). take n (table at-size)) (used at-size))
+    let total-read = at-size .before .before .u32-at .ensures in
+    let remaining-read = at-size .before .u32-at2 .ensures in
+    let part : c .before .head .result .now ≡ summedPart (table at-size) = c .before .head .ensures ∙ cc in
+    c .sum32 .ensures ∙ ap (sum 4) part
 
 returns : tie.Need-returns
 returns c = sym (judged-size _ _ _ (sym (tested (c .before)) ∙ c .if1 .taken))

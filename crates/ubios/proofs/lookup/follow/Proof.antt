@@ -3,13 +3,13 @@
 use Prim.Native.Nat.{ℕ}
 use mathlib.Core.Path.{_≡_, sym, ap, _∙_}
 use mathlib.Core.List.{List}
-use borrow.Author.Tests.{not-true, not-false}
+use borrow.Author.Tests.{eq-eqb, ne-eqb, not-true, not-false}
 use Rattle.le.specs.Compare.{same}
 use Rattle.ubios.specs.Layout.{tableHeader, nameOf}
 use Rattle.ubios.specs.Checks.{tableAt, checked}
 use Rattle.ubios.specs.declared.Checked.the-variants.{Passed}
 use Rattle.ubios.proofs.Answers.{header-fits, header-used}
-use Rattle.ubios.proofs.Walking.{gap, below-region, other-name, fails, no-hit, hit}
+use Rattle.ubios.proofs.Walking.{at-gap, below-region, other-name, fails, no-hit, hit}
 use borrow.Author.Needs.{needs}
 use Rattle.ubios.proofs.lookup.follow.Statement.{statement}
 use Rattle.ubios.proofs.lookup.follow.Tie as tie
@@ -27,7 +27,7 @@ tested c =
 returns : tie.Need-returns
 returns c =
     let a = c .before .before .before .args in
-    sym (no-hit (a .base) (a .region .now) (a .name .now) (a .address) (a .slot) (gap (a .base) (a .region .now) (a .name .now) (a .address) (c .if1 .taken)))
+    sym (no-hit (a .base) (a .region .now) (a .name .now) (a .address) (a .slot) (at-gap (a .base) (a .region .now) (a .name .now) (a .address) (eq-eqb _ _ (c .if1 .taken))))
 
 returns-2 : tie.Need-returns-2
 returns-2 c =
@@ -70,7 +70,7 @@ add-t15 : tie.Need-add-t15
 add-t15 c = let inside = header-fits tableHeader _ _ _ _ (passed c) in search needs
 
 sub-t16 : tie.Need-sub-t16
-sub-t16 c = header-used tableHeader _ _ _ _ (passed (c .before))
+sub-t16 c = let held = header-used tableHeader _ _ _ _ (passed (c .before)) in search needs
 
 returns-4 : tie.Need-returns-4
 returns-4 c =
@@ -83,7 +83,7 @@ returns-5 : tie.Need-returns-5
 returns-5 c =
     let a = entry (c .before) .args in
     let at-name = c .before .before .before .before .before .before in
-    sym (hit (a .base) (a .region .now) (a .name .now) (a .address) (a .slot) _ (at-name .before .before .before .before .before .if1 .left) (passed (c .before)) (sym (tested (at-name .before)) ∙ not-false _ (at-name .if3 .left)))
+    sym (hit (a .base) (a .region .now) (a .name .now) (a .address) (a .slot) _ (ne-eqb _ _ (at-name .before .before .before .before .before .if1 .left)) (passed (c .before)) (sym (tested (at-name .before)) ∙ not-false _ (at-name .if3 .left)))
 
 pub follow-spec : {M : Type 1} → statement M
 follow-spec =
