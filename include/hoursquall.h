@@ -1,5 +1,5 @@
 /* Hoursquall: UBIOS message frames, their reassembly into messages, the notice ring,
- * and the checksums of UBIOS and SFI tables.
+ * UBIOS tables, and the checksums of UBIOS and SFI tables.
  *
  * Link target/staticlib/libhoursquall.a (x86-64, System V calling convention).
  *
@@ -27,6 +27,10 @@ enum {
     HS_RING_MAX = 65536,
     HS_NOTICE_HEADER_SIZE = 8, /* Notify ID and Data Length */
     HS_NOTICE_MAX = 1024,      /* a notice's data */
+    HS_TABLE_HEADER_SIZE = 32,
+    HS_ROOT_HEADER_SIZE = 40, /* with Count and six reserved bytes */
+    HS_TABLE_MAX = 65536,     /* a table's Total Size */
+    HS_NAME_MAX = 16,         /* a table's name */
 };
 
 /* Places of the words that hs_frame_parse hands out, in the frame's order. */
@@ -41,11 +45,16 @@ enum {
 };
 
 /* How many numbers a state of the reassembly has, a message carried words, and a ring
- * positions. */
+ * positions; how many numbers are handed out of a table, a root table and a table's
+ * body; and how many slots a root table has at most. */
 enum {
     HS_STATE_NUMBERS = 7,
     HS_WORDS = 4,
     HS_POSITIONS = 2,
+    HS_TABLE_NUMBERS = 2,
+    HS_ROOT_NUMBERS = 3,
+    HS_BODY_NUMBERS = 3,
+    HS_SLOTS_MAX = 128,
 };
 
 /* Answers. A refusal is the first in its function's list whose condition holds. */
@@ -78,6 +87,20 @@ enum {
     HS_REFUSED_NOTICE_OUTPUT_SHORT = 23, /* output shorter than the data */
     HS_REFUSED_NOTICE_LONG = 24,         /* data over HS_NOTICE_MAX bytes */
     HS_REFUSED_FULL = 25,                /* the notice does not fit what is free */
+};
+
+/* Refusals of UBIOS tables. */
+enum {
+    HS_REFUSED_TABLE_OUTSIDE = 30,    /* region past 2^64, or header not inside */
+    HS_REFUSED_TABLE_MISALIGNED = 31, /* address is not a multiple of 8 */
+    HS_REFUSED_TABLE_SIZE = 32,       /* Total or Remaining Size is not legal */
+    HS_REFUSED_TABLE_VERSION = 33,    /* Version is not 1 */
+    HS_REFUSED_TABLE_SUM = 34,        /* the used part does not sum to 0 */
+    HS_REFUSED_NOT_ROOT = 35,         /* the root's name is not root_table */
+    HS_REFUSED_SLOT_COUNT = 36,       /* the root's Count is not legal */
+    HS_REFUSED_NO_TABLE = 37,         /* no slot leads to a table of the name */
+    HS_REFUSED_TWO_TABLES = 38,       /* two slots or more do */
+    HS_REFUSED_BAD_NAME = 39,         /* the name sought is not legal */
 };
 
 /* The bytes added up modulo 2^8, the sum of SFI tables. Changes nothing. */
@@ -144,6 +167,48 @@ uint32_t hs_notice_post(uint8_t *ring, size_t ring_len,
 uint32_t hs_notice_take(const uint8_t *ring, size_t ring_len,
                         size_t positions[HS_POSITIONS], uint8_t *out, size_t out_len,
                         uint32_t *id, size_t *data_len);
+
+/* Checks the UBIOS table at address. The memory that is looked at is region, and base
+ * is the address of its first byte: byte i of region has the address base + i. Nothing
+ * else is read, whatever base, address and the table say. HS_OK: part[0] is the table's
+ * offset in region, address - base, and part[1] the length of its used part, Total Size
+ * less Remaining Size. That counts the header, and all of it is inside region.
+ *
+ * 30: base + region_len is over 2^64, or region does not have the HS_TABLE_HEADER_SIZE
+ * bytes from address on. 32: Total Size is under HS_TABLE_HEADER_SIZE, over
+ * HS_TABLE_MAX, or over what region has from address on, or Remaining Size is over
+ * Total Size - HS_TABLE_HEADER_SIZE. 34: hs_sum32 of the used part is not 0.
+ * Refusals 31, 30, 32, 33, 34: part is unchanged. */
+uint32_t hs_ubios_table(const uint8_t *region, size_t region_len, uint64_t base,
+                        uint64_t address, size_t part[HS_TABLE_NUMBERS]);
+
+/* Checks the root table at address, with region and base as above. HS_OK: root[0] and
+ * root[1] are its offset and the length of its used part, as above, and root[2] is its
+ * Count: how many slots it has, gaps too. They follow its header, each a little-endian
+ * address of 8 bytes; a slot of 0 is a gap, and may stand anywhere among them.
+ *
+ * 30 to 34 are as above, with HS_ROOT_HEADER_SIZE for HS_TABLE_HEADER_SIZE. 35: its
+ * name is not root_table; bytes behind the first zero byte of a table's name don't
+ * count. 36: Count is over HS_SLOTS_MAX, or HS_ROOT_HEADER_SIZE + 8 * Count is over the
+ * length of the used part. Refusals 31, 30, 32, 33, 34, 35, 36: root is unchanged. */
+uint32_t hs_ubios_root(const uint8_t *region, size_t region_len, uint64_t base,
+                       uint64_t address, size_t root[HS_ROOT_NUMBERS]);
+
+/* Looks for the table of a name, through the root table at the address root, with
+ * region and base as above; name has no zero byte at its end. Every slot is looked at:
+ * a gap is passed over, wherever it stands, and so is a slot whose table hs_ubios_table
+ * would refuse. HS_OK: just one slot leads to a table of that name. body[0] is the
+ * slot, counted from 0, gaps too; body[1] is the offset in region of the table's body,
+ * its used part behind the header of HS_TABLE_HEADER_SIZE bytes; body[2] is the body's
+ * length, and may be 0.
+ *
+ * 39: name_len is 0 or over HS_NAME_MAX, or name has a zero byte. 30 to 36: what
+ * hs_ubios_root refuses. 38: two slots or more lead to tables of that name, also where
+ * it is the same table. 37: no slot does. Refusals 39, 31, 30, 32, 33, 34, 35, 36, 38,
+ * 37: body is unchanged. */
+uint32_t hs_ubios_find(const uint8_t *region, size_t region_len, uint64_t base,
+                       uint64_t root, const uint8_t *name, size_t name_len,
+                       size_t body[HS_BODY_NUMBERS]);
 
 #ifdef __cplusplus
 }

@@ -2,3 +2,4 @@
 pub mod Frame
 pub mod Notice
 pub mod Reassembly
+pub mod Ubios

@@ -7,9 +7,13 @@ ghost use Rattle.frame.specs.Reading.{parsed};
 ghost use Rattle.frame.specs.Writing.{counted, written, outputAfter};
 ghost use Rattle.reassembly.specs.Step.{stepOf};
 ghost use Rattle.notice.specs.Ring as Ring;
+ghost use Rattle.ubios.specs.Layout.{tableHeader};
+ghost use Rattle.ubios.specs.Checks.{checked, rootChecked};
+ghost use Rattle.ubios.specs.Lookup.{found};
 ghost use Rattle.hoursquall.specs.Reassembly.{stateOf, blockOf, verdictNumber, wordsAfter};
 ghost use Rattle.hoursquall.specs.Frame.{parseNumber, headerAfter, countNumber, countAfter, writeNumber, lengthAfter, envelopeOf};
 ghost use Rattle.hoursquall.specs.Notice.{positionsOf, postNumber, positionsAfterPost, takeNumber, positionsAfterTake, idAfter, dataLengthAfter};
+ghost use Rattle.hoursquall.specs.Ubios.{tableNumber, partAfter, rootNumber, rootPartAfter, findNumber, bodyAfter};
 
 mod state;
 
@@ -22,6 +26,9 @@ use notice::Taken;
 use reassembly::Verdict;
 use state::block_of;
 use state::state_of;
+use ubios::Checked;
+use ubios::RootChecked;
+use ubios::lookup::Found;
 
 // The bytes, added up modulo 2^8.
 #[no_mangle]
@@ -192,6 +199,70 @@ pub extern "C" fn hs_notice_take(
             *positions = [rest.read, rest.write];
             *id = i;
             *extent = length;
+            0
+        }
+    }
+}
+
+// Checks the UBIOS table at an address of the memory that starts with `region` at `base`; `part` receives the
+// place and the length of its used part.
+#[no_mangle]
+pub extern "C" fn hs_ubios_table(
+    region: &[u8],
+    base: u64,
+    address: u64,
+    part: &mut [usize; 2],
+) -> u32
+    ensures { λ r. ⌜ r ≡ tableNumber (checked tableHeader base (now (region .entry)) address) ⌝ }
+    ensures { λ _. ⌜ now (part .exit) ≡ partAfter (checked tableHeader base (now (region .entry)) address) (now (part .entry)) ⌝ }
+{
+    match ubios::Table::check(region, base, address) {
+        Checked::Refused(reason) => reason.number(),
+        Checked::Passed(table) => {
+            *part = [table.at, table.used];
+            0
+        }
+    }
+}
+
+// Checks the root table likewise; `root` also receives how many slots it has.
+#[no_mangle]
+pub extern "C" fn hs_ubios_root(
+    region: &[u8],
+    base: u64,
+    address: u64,
+    root: &mut [usize; 3],
+) -> u32
+    ensures { λ r. ⌜ r ≡ rootNumber (rootChecked base (now (region .entry)) address) ⌝ }
+    ensures { λ _. ⌜ now (root .exit) ≡ rootPartAfter (rootChecked base (now (region .entry)) address) (now (root .entry)) ⌝ }
+{
+    match ubios::Root::check(region, base, address) {
+        RootChecked::Refused(reason) => reason.number(),
+        RootChecked::Passed(passed) => {
+            let table = passed.table;
+            *root = [table.at, table.used, passed.count];
+            0
+        }
+    }
+}
+
+// Looks for the table of a name through the root at an address; `body` receives its slot, and the place and
+// the length of its body.
+#[no_mangle]
+pub extern "C" fn hs_ubios_find(
+    region: &[u8],
+    base: u64,
+    root: u64,
+    name: &[u8],
+    body: &mut [usize; 3],
+) -> u32
+    ensures { λ r. ⌜ r ≡ findNumber (found base (now (region .entry)) root (now (name .entry))) ⌝ }
+    ensures { λ _. ⌜ now (body .exit) ≡ bodyAfter (found base (now (region .entry)) root (now (name .entry))) (now (body .entry)) ⌝ }
+{
+    match ubios::lookup::find(region, base, root, name) {
+        Found::Refused(reason) => reason.number(),
+        Found::Only(only) => {
+            *body = [only.slot, only.at, only.length];
             0
         }
     }

@@ -7,10 +7,11 @@
 --     word-bytes     the word of a number's bytes is the number
 --     word-own       the same with nothing behind them
 --     bytes-word     the bytes of a word are the bytes that it was read from
+--     word-same      bytes with equal words are equal
 --     length-bytes   a number's k bytes are k bytes
 -- Assumes nothing.
 use Prim.Native.Nat.{ℕ, zero, suc, _+_, _*_, _/_, _%_, _^_, _≤_, _<_}
-use mathlib.Core.Path.{_≡_, refl, ap}
+use mathlib.Core.Path.{_≡_, refl, ap, ap₂}
 use mathlib.Core.List.{List, [], _∷_, _++_, append-nil}
 use native.Mathlib.Nat.{mul-assoc, mul-comm, add-mul, add-zero}
 use native.Mathlib.Omega.{arith}
@@ -76,6 +77,19 @@ bytes-word (suc k) (b ∷ s) h l =
     let low : (b + 256 * word k s) % 256 ≡ b = omega arith in
     let high : (b + 256 * word k s) / 256 ≡ word k s = omega arith in
     rw (low, high, bytes-word k s (λ i. h (suc i)) (omega arith))
+
+pub word-same : (k : ℕ) (s t : List ℕ) → AreBytes s → AreBytes t → length s ≡ length t → word k s ≡ word k t → take k s ≡ take k t
+unfolding word
+word-same zero s t hs ht l e = refl
+word-same (suc k) [] [] hs ht l e = refl
+word-same (suc k) [] (c ∷ t) hs ht l e = absurd (omega arith)
+word-same (suc k) (b ∷ s) [] hs ht l e = absurd (omega arith)
+word-same (suc k) (b ∷ s) (c ∷ t) hs ht l e =
+    let b-byte = hs 0 in
+    let c-byte = ht 0 in
+    let first : b ≡ c = omega arith in
+    let rest : word k s ≡ word k t = omega arith in
+    ap₂ (λ (x : ℕ) (xs : List ℕ). x ∷ xs) first (word-same k s t (λ i. hs (suc i)) (λ i. ht (suc i)) (omega arith) rest)
 
 pub length-bytes : (k n : ℕ) → length (bytes k n) ≡ k
 unfolding bytes

@@ -23,21 +23,25 @@ pub fn head(s: &[u8], n: usize) -> &[u8]
     if n < s.len() { &s[..n] } else { s }
 }
 
-// Whether two slices hold the same bytes.
+// Whether two slices hold the same bytes: word by word, where the last word may overlap the one before it.
 pub fn same(a: &[u8], b: &[u8]) -> bool
     ensures { λ r. ⌜ r ≡ Compare.same (now (a .entry)) (now (b .entry)) ⌝ }
 {
     if a.len() != b.len() {
         return false;
     }
+    if a.len() < 8 {
+        return word::u64_at(a, 0) == word::u64_at(b, 0);
+    }
+    let last = a.len() - 8;
     let mut i = 0;
-    while i < a.len() {
-        if a[i] != b[i] {
+    while i < last {
+        if word::u64_at(a, i) != word::u64_at(b, i) {
             return false;
         }
-        i += 1;
+        i += 8;
     }
-    true
+    word::u64_at(a, last) == word::u64_at(b, last)
 }
 
 fn least(a: usize, b: usize) -> usize

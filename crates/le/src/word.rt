@@ -2,7 +2,8 @@
 // end of the slice count as 0, so there is a word at every place.
 use crate::tail;
 ghost use mathlib.Core.Path.{_≡_};
-ghost use lib.ListN.{drop, getD};
+ghost use Prim.Native.Nat.{_≤_, _<_};
+ghost use lib.ListN.{length, drop, getD};
 ghost use Rattle.le.specs.Word.{word, bytes};
 
 // The byte at `i`; 0 past the end.
@@ -42,6 +43,28 @@ fn first_u64(s: &[u8]) -> u64
         + byte(s, 7) as u64 * 0x100_0000_0000_0000
 }
 
+// A byte that the slice has, and the word of eight of them: nothing is compared, so it is a single load.
+fn byte_in(s: &[u8], i: usize) -> u8
+    requires { ⌜ i < length (now s) ⌝ }
+    ensures { λ r. ⌜ r ≡ getD (now (s .entry)) i 0 ⌝ }
+{
+    s[i]
+}
+
+fn whole_u64(s: &[u8]) -> u64
+    requires { ⌜ 8 ≤ length (now s) ⌝ }
+    ensures { λ r. ⌜ r ≡ word 8 (now (s .entry)) ⌝ }
+{
+    byte_in(s, 0) as u64
+        + byte_in(s, 1) as u64 * 0x100
+        + byte_in(s, 2) as u64 * 0x1_0000
+        + byte_in(s, 3) as u64 * 0x100_0000
+        + byte_in(s, 4) as u64 * 0x1_0000_0000
+        + byte_in(s, 5) as u64 * 0x100_0000_0000
+        + byte_in(s, 6) as u64 * 0x1_0000_0000_0000
+        + byte_in(s, 7) as u64 * 0x100_0000_0000_0000
+}
+
 // The word at a place of a slice.
 pub fn u8_at(s: &[u8], at: usize) -> u8
     ensures { λ r. ⌜ r ≡ word 1 (drop at (now (s .entry))) ⌝ }
@@ -64,7 +87,12 @@ pub fn u32_at(s: &[u8], at: usize) -> u32
 pub fn u64_at(s: &[u8], at: usize) -> u64
     ensures { λ r. ⌜ r ≡ word 8 (drop at (now (s .entry))) ⌝ }
 {
-    first_u64(tail(s, at))
+    let rest = tail(s, at);
+    if 8 <= rest.len() {
+        whole_u64(rest)
+    } else {
+        first_u64(rest)
+    }
 }
 
 // The bytes of a word.

@@ -2,15 +2,19 @@
 -- Assumes nothing.
 use Prim.Native.Nat.{ℕ, suc, _+_, _≤_, _<_}
 use mathlib.Core.Bool.{Bool, true, false, cond}
-use mathlib.Core.Path.{_≡_, refl, ap, _∙_}
-use mathlib.Core.List.{List, [], _∷_}
-use borrow.Author.Tests.{lt-ltb, le-ltb, eq-eqb, ne-eqb}
+use mathlib.Core.Path.{_≡_, refl, ap, sym, _∙_}
+use mathlib.Core.List.{List, [], _∷_, _++_, append-nil}
+use borrow.Author.Tests.{lt-ltb, le-ltb, eq-eqb, ne-eqb, ltb-false, eqb-true, eqb-false}
+use native.Mathlib.Nat.{add-zero}
 use native.Mathlib.Numerals.{add-one}
 use native.Mathlib.Omega.{arith}
 use lib.Dec.{ltb, eqb}
-use lib.ListN.{length, take, drop, getD, drop-of-length-le}
-use lib.Seq.{drop-cons}
-use Rattle.ubios.specs.Layout.{nameMax, upToZero, nameOf}
+use lib.ListN.{length, take, drop, getD, drop-of-length-le, length-append, take-append-drop}
+use lib.Seq.{drop-cons, take-all, take-take, getD-take, getD-drop}
+use Rattle.le.specs.Compare.{same}
+use Rattle.le.proofs.Tests.{apart, never, neither}
+use Rattle.le.proofs.Comparing.{same-true, equal-same, other-list, other-length}
+use Rattle.ubios.specs.Layout.{nameMax, upToZero, nameOf, rootName}
 use Rattle.ubios.specs.Lookup.{badName}
 
 ends : (b : ℕ) (s : List ℕ) → b ≡ 0 → upToZero (b ∷ s) ≡ []
@@ -56,10 +60,6 @@ start (b ∷ s) = go (eqb b 0) (start s)
     go true e = refl
     go false e = ap (λ (l : List ℕ). b ∷ l) e
 
--- the name as it is read: the start of the field, of as many bytes as stand before the first zero
-pub read-name : (t field r : List ℕ) (n : ℕ) → field ≡ take nameMax t → n ≡ length (upToZero field) → r ≡ take n field → r ≡ nameOf t
-read-name t field r n e-field e-n e = e ∙ ap (λ (k : ℕ). take k field) e-n ∙ start field ∙ ap upToZero e-field
-
 -- which names are bad
 module _ (name : List ℕ) where
   pub empty-name : length name ≡ 0 → badName name ≡ true
@@ -73,3 +73,83 @@ module _ (name : List ℕ) where
   pub by-zero : (length name ≡ 0 → ⊥) → length name ≤ nameMax → badName name ≡ ltb (length (upToZero name)) (length name)
   unfolding badName
   by-zero ne h = rw (ne-eqb (length name) 0 ne, le-ltb nameMax (length name) h)
+
+-- a name that can be sought has no zero, and fits the field
+whole : (name : List ℕ) → badName name ≡ false → upToZero name ≡ name
+unfolding badName
+whole name e =
+    let p = neither (eqb (length name) 0) _ e in
+    let q = neither (ltb nameMax (length name)) _ (p .1) in
+    let long = ltb-false (length (upToZero name)) (length name) (q .1) in
+    sym (start name) ∙ take-all (length (upToZero name)) name long
+
+fits : (name : List ℕ) → badName name ≡ false → length name ≤ nameMax
+unfolding badName
+fits name e =
+    let p = neither (eqb (length name) 0) _ e in
+    let q = neither (ltb nameMax (length name)) _ (p .1) in
+    ltb-false nameMax (length name) (q .0)
+
+-- what stands before the first zero of two joined lists, of which the first has none
+joined : (s t : List ℕ) → upToZero s ≡ s → upToZero (s ++ t) ≡ s ++ upToZero t
+joined [] t e = refl
+joined (b ∷ s) t e = go (eqb b 0) refl (joined s t)
+  where
+    go : (z : Bool) → eqb b 0 ≡ z → (upToZero s ≡ s → upToZero (s ++ t) ≡ s ++ upToZero t) → upToZero (b ∷ (s ++ t)) ≡ b ∷ (s ++ upToZero t)
+    go true q later = let x = sym (ends b s (eqb-true b 0 q)) ∙ e in apart (cc)
+    go false q later =
+        let ne = eqb-false b 0 q in
+        let none : upToZero s ≡ s = let x = sym (goes-on b s ne) ∙ e in cc in
+        goes-on b (s ++ t) ne ∙ ap (λ (l : List ℕ). b ∷ l) (later none)
+
+-- a name with more behind it is the same as the name only if a zero comes next
+by-rest : (name rest : List ℕ) → same (name ++ upToZero rest) name ≡ eqb (getD rest 0 0) 0
+by-rest name [] = equal-same (name ++ upToZero []) name (ap (λ (l : List ℕ). name ++ l) none ∙ append-nil name)
+by-rest name (b ∷ rest) = go (eqb b 0) refl
+  where
+    go : (z : Bool) → eqb b 0 ≡ z → same (name ++ upToZero (b ∷ rest)) name ≡ eqb b 0
+    go true q =
+        equal-same (name ++ upToZero (b ∷ rest)) name (ap (λ (l : List ℕ). name ++ l) (ends b rest (eqb-true b 0 q)) ∙ append-nil name) ∙ sym q
+    go false q =
+        let longer : length (name ++ upToZero (b ∷ rest)) ≡ length name + suc (length (upToZero rest)) =
+        ap (λ (l : List ℕ). length (name ++ l)) (goes-on b rest (eqb-false b 0 q)) ∙ length-append name (b ∷ upToZero rest) in
+        other-length (name ++ upToZero (b ∷ rest)) name (λ e. absurd (omega arith)) ∙ sym q
+
+-- which tables have that name
+module _ (t name : List ℕ) (good : badName name ≡ false) where
+  field-start : take (length name) (take nameMax t) ≡ take (length name) t
+  field-start = take-take (length name) nameMax t (fits name good)
+
+  pub other-start : same (take (length name) t) name ≡ false → same (nameOf t) name ≡ false
+  other-start e = other-list (nameOf t) name (λ q. never (sym (equal-same (take (length name) t) name (starts-with q)) ∙ e))
+    where
+      starts-with : nameOf t ≡ name → take (length name) t ≡ name
+      starts-with q =
+          sym field-start ∙ sym (ap (λ (n : List ℕ). take (length n) (take nameMax t)) q) ∙ start (take nameMax t) ∙ q
+
+  module _ (starts : same (take (length name) t) name ≡ true) where
+    starts-is : take (length name) t ≡ name
+    starts-is = same-true (take (length name) t) name starts
+
+    pub fills : length name ≡ nameMax → same (nameOf t) name ≡ true
+    fills e =
+        let all : take nameMax t ≡ name = ap (λ (n : ℕ). take n t) (sym e) ∙ starts-is in
+        equal-same (nameOf t) name (ap upToZero all ∙ whole name good)
+
+    pub by-next : (length name ≡ nameMax → ⊥) → same (nameOf t) name ≡ eqb (getD t (length name) 0) 0
+    by-next ne =
+        let n = length name in
+        let rest = drop n (take nameMax t) in
+        let less : n < nameMax = omega (arith, fits name good, ne) in
+        let field : take nameMax t ≡ name ++ rest =
+        sym (take-append-drop n (take nameMax t)) ∙ ap (λ (l : List ℕ). l ++ rest) (field-start ∙ starts-is) in
+        let next : getD rest 0 0 ≡ getD t n 0 =
+        getD-drop n (take nameMax t) 0 0 ∙ ap (λ (i : ℕ). getD (take nameMax t) i 0) (add-zero n) ∙ getD-take nameMax t n 0 less in
+        ap (λ (l : List ℕ). same l name) (ap upToZero field ∙ joined name rest (whole name good))
+        ∙ by-rest name rest
+        ∙ ap (λ (b : ℕ). eqb b 0) next
+
+-- the root's name can be sought
+pub root-name-good : badName rootName ≡ false
+unfolding badName upToZero
+root-name-good = refl

@@ -4,7 +4,7 @@
 pub mod lookup;
 mod name;
 
-use name::name_of;
+use name::is_named;
 ghost use mathlib.Core.Path.{_≡_};
 ghost use Prim.Native.Nat.{_+_, _^_};
 ghost use lib.Dec.{ltb};
@@ -179,7 +179,7 @@ impl Root {
     fn judge(table: Table, root: &[u8]) -> RootChecked
         ensures { λ r. ⌜ r ≡ rootJudged table (now (root .entry)) ⌝ }
     {
-        if !le::same(name_of(root), b"root_table") {
+        if !is_named(root, b"root_table") {
             return RootChecked::Refused(Reason::NotRoot);
         }
         let count = le::word::u16_at(root, 32) as usize;

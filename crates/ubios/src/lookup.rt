@@ -5,12 +5,13 @@ use crate::Root;
 use crate::RootChecked;
 use crate::Table;
 use crate::name::is_bad_name;
-use crate::name::name_of;
+use crate::name::is_named;
 ghost use mathlib.Core.Path.{_≡_};
+ghost use mathlib.Core.Bool.{false};
 ghost use Prim.Native.Nat.{_-_, _*_, _≤_};
 ghost use lib.ListN.{drop};
 ghost use Rattle.ubios.specs.Layout.{countMax, addresses};
-ghost use Rattle.ubios.specs.Lookup.{hits, lookedUp, found};
+ghost use Rattle.ubios.specs.Lookup.{badName, hits, lookedUp, found};
 ghost use Rattle.ubios.specs.Helpers.{hitOf, firstOf};
 
 // The slot, counted from 0 and gaps too, and the body's place and length in the region: the table's used part
@@ -35,6 +36,7 @@ enum Hit {
 // What a slot with that address leads to, if that is a passing table of the name. The name is compared first,
 // since it is the cheaper test.
 fn follow(region: &[u8], base: u64, name: &[u8], slot: usize, address: u64) -> Hit
+    requires { ⌜ badName (now name) ≡ false ⌝ }
     ensures { λ r. ⌜ r ≡ hitOf base (now (region .entry)) (now (name .entry)) slot address ⌝ }
 {
     if address == 0 {
@@ -44,7 +46,7 @@ fn follow(region: &[u8], base: u64, name: &[u8], slot: usize, address: u64) -> H
         return Hit::None;
     }
     let at = (address - base) as usize;
-    if !le::same(name_of(le::tail(region, at)), name) {
+    if !is_named(le::tail(region, at), name) {
         return Hit::None;
     }
     match Table::check(region, base, address) {
@@ -59,7 +61,7 @@ fn follow(region: &[u8], base: u64, name: &[u8], slot: usize, address: u64) -> H
 
 // The first hit among the slots from one on.
 fn next_hit(region: &[u8], base: u64, name: &[u8], slots: &[u8], count: usize, from: usize) -> Hit
-    requires { ⌜ count ≤ countMax ⌝ }
+    requires { ⌜ (count ≤ countMax) × (badName (now name) ≡ false) ⌝ }
     ensures { λ r. ⌜ r ≡ firstOf (hits base (now (region .entry)) (now (name .entry)) from (addresses (count - from) (drop (8 * from) (now (slots .entry))))) ⌝ }
 {
     let mut slot = from;
@@ -77,7 +79,7 @@ fn next_hit(region: &[u8], base: u64, name: &[u8], slots: &[u8], count: usize, f
 
 // Every slot is walked, until two hits are met: a gap ends nothing.
 fn walk(region: &[u8], base: u64, name: &[u8], slots: &[u8], count: usize) -> Found
-    requires { ⌜ count ≤ countMax ⌝ }
+    requires { ⌜ (count ≤ countMax) × (badName (now name) ≡ false) ⌝ }
     ensures { λ r. ⌜ r ≡ lookedUp base (now (region .entry)) (now (name .entry)) (addresses count (now (slots .entry))) ⌝ }
 {
     match next_hit(region, base, name, slots, count, 0) {

@@ -1,6 +1,8 @@
 // Names: bytes after the first zero don't count.
 ghost use mathlib.Core.Path.{_≡_};
+ghost use mathlib.Core.Bool.{false};
 ghost use lib.ListN.{length};
+ghost use Rattle.le.specs.Compare.{same};
 ghost use Rattle.ubios.specs.Layout.{upToZero, nameOf};
 ghost use Rattle.ubios.specs.Lookup.{badName};
 
@@ -21,14 +23,6 @@ fn zero_at(s: &[u8]) -> usize
     i
 }
 
-// The name of a table.
-pub fn name_of(table: &[u8]) -> &[u8]
-    ensures { λ r. ⌜ now r ≡ nameOf (now (table .entry)) ⌝ }
-{
-    let field = le::head(table, NAME_MAX);
-    le::head(field, zero_at(field))
-}
-
 // Whether no table can have that name.
 pub fn is_bad_name(name: &[u8]) -> bool
     ensures { λ r. ⌜ r ≡ badName (now (name .entry)) ⌝ }
@@ -40,4 +34,19 @@ pub fn is_bad_name(name: &[u8]) -> bool
         return true;
     }
     zero_at(name) < name.len()
+}
+
+// Whether a table has that name: it starts with it, and then comes a zero, unless the name fills its field.
+pub fn is_named(table: &[u8], name: &[u8]) -> bool
+    requires { ⌜ badName (now name) ≡ false ⌝ }
+    ensures { λ r. ⌜ r ≡ same (nameOf (now (table .entry))) (now (name .entry)) ⌝ }
+{
+    let n = name.len();
+    if !le::same(le::head(table, n), name) {
+        return false;
+    }
+    if n == NAME_MAX {
+        return true;
+    }
+    le::word::u8_at(table, n) == 0
 }

@@ -3,6 +3,8 @@
 
 const HEADER_SIZE: usize = 24;
 const NOTICE_HEADER_SIZE: usize = 8;
+const TABLE_HEADER_SIZE: usize = 32;
+const ROOT_HEADER_SIZE: usize = 40;
 
 #[inline(never)]
 pub fn sum8(bytes: &[u8]) -> u8 {
@@ -285,6 +287,120 @@ fn copy_out(ring: &[u8], at: usize, bytes: &mut [u8]) {
     let (first, rest) = bytes.split_at_mut(ring.len() - at);
     first.copy_from_slice(&ring[at..]);
     rest.copy_from_slice(&ring[..rest.len()]);
+}
+
+#[inline(never)]
+pub fn table(region: &[u8], base: u64, address: u64, part: &mut [usize; 2]) -> u32 {
+    match used_part(region, base, address, TABLE_HEADER_SIZE) {
+        Ok((offset, used)) => {
+            *part = [offset, used.len()];
+            0
+        }
+        Err(refusal) => refusal,
+    }
+}
+
+#[inline(never)]
+pub fn find(region: &[u8], base: u64, root: u64, name: &[u8], body: &mut [usize; 3]) -> u32 {
+    if name.is_empty() || name.len() > 16 || name.contains(&0) {
+        return 39;
+    }
+    let slots = match slots(region, base, root) {
+        Ok(slots) => slots,
+        Err(refusal) => return refusal,
+    };
+    let mut found = None;
+    for (slot, address) in slots.chunks_exact(8).enumerate() {
+        let address = u64::from_le_bytes(address.try_into().expect("it has eight bytes"));
+        if address == 0 || !has_name(region, base, address, name) {
+            continue;
+        }
+        let Ok((offset, used)) = used_part(region, base, address, TABLE_HEADER_SIZE) else {
+            continue;
+        };
+        if found.is_some() {
+            return 38;
+        }
+        let length = used.len() - TABLE_HEADER_SIZE;
+        found = Some([slot, offset + TABLE_HEADER_SIZE, length]);
+    }
+    let Some(found) = found else {
+        return 37;
+    };
+    *body = found;
+    0
+}
+
+/// The slots of a root that passes.
+#[inline(always)]
+fn slots(region: &[u8], base: u64, root: u64) -> Result<&[u8], u32> {
+    let (_, root) = used_part(region, base, root, ROOT_HEADER_SIZE)?;
+    if !is_named(root, b"root_table") {
+        return Err(35);
+    }
+    let count = usize::from(u16::from_le_bytes([root[32], root[33]]));
+    if count > 128 {
+        return Err(36);
+    }
+    let end = ROOT_HEADER_SIZE + 8 * count;
+    root.get(ROOT_HEADER_SIZE..end).ok_or(36)
+}
+
+/// Whether there is a header with that name. It is cheaper than the sum, so it comes first: only
+/// a table of the name has to pass.
+#[inline(always)]
+fn has_name(region: &[u8], base: u64, address: u64, name: &[u8]) -> bool {
+    header_offset(region, base, address, TABLE_HEADER_SIZE)
+        .is_ok_and(|offset| is_named(&region[offset..], name))
+}
+
+/// The bytes before the first zero of the table's sixteen are the name's.
+#[inline(always)]
+fn is_named(table: &[u8], name: &[u8]) -> bool {
+    let field = &table[..16];
+    field.starts_with(name) && field.get(name.len()).is_none_or(|&next| next == 0)
+}
+
+/// The offset and the used part of a table that passes.
+#[inline(always)]
+fn used_part(
+    region: &[u8],
+    base: u64,
+    address: u64,
+    header_size: usize,
+) -> Result<(usize, &[u8]), u32> {
+    let offset = header_offset(region, base, address, header_size)?;
+    let table = &region[offset..];
+    let (total, remaining) = (word_at(table, 16) as usize, word_at(table, 24) as usize);
+    if total < header_size || total > 65_536.min(table.len()) || remaining > total - header_size {
+        return Err(32);
+    }
+    if table[20] != 1 {
+        return Err(33);
+    }
+    let used = &table[..total - remaining];
+    if sum32(used) != 0 {
+        return Err(34);
+    }
+    Ok((offset, used))
+}
+
+/// Where a header is in the region, if all of it is.
+#[inline(always)]
+fn header_offset(region: &[u8], base: u64, address: u64, header_size: usize) -> Result<usize, u32> {
+    if !address.is_multiple_of(8) {
+        return Err(31);
+    }
+    // A region may end at 2^64, but not past it.
+    let past = !region.is_empty() && base.checked_add(region.len() as u64 - 1).is_none();
+    if past || address < base {
+        return Err(30);
+    }
+    let offset = (address - base) as usize;
+    if offset > region.len() || region.len() - offset < header_size {
+        return Err(30);
+    }
+    Ok(offset)
 }
 
 fn word_at(bytes: &[u8], at: usize) -> u32 {

@@ -119,3 +119,25 @@ pub fn take(
         )
     }
 }
+
+#[inline(always)]
+pub fn table(region: &[u8], base: u64, address: u64, part: &mut [usize; 2]) -> u32 {
+    // SAFETY: the pointer and the length are those of one slice; `part` is borrowed exclusively.
+    unsafe { raw::hs_ubios_table(region.as_ptr(), region.len(), base, address, part) }
+}
+
+#[inline(always)]
+pub fn find(region: &[u8], base: u64, root: u64, name: &[u8], body: &mut [usize; 3]) -> u32 {
+    // SAFETY: each pointer and length are those of one slice; `body` is borrowed exclusively.
+    unsafe {
+        raw::hs_ubios_find(
+            region.as_ptr(),
+            region.len(),
+            base,
+            root,
+            name.as_ptr(),
+            name.len(),
+            body,
+        )
+    }
+}

@@ -18,6 +18,11 @@ const PIECE: usize = 232;
 const RING: usize = 4096;
 const NOTICE: usize = 1024;
 
+const BASE: u64 = 0x1000;
+const SLOTS: usize = 128;
+const ROOT: usize = 40 + 8 * SLOTS;
+const TABLE: usize = 256;
+
 /// The functions as both sides have them.
 type Parse = fn(&[u8], u32, &mut [u32; 6]) -> u32;
 type Count = fn(usize, usize, &mut usize) -> u32;
@@ -25,6 +30,8 @@ type Write = fn(u32, u32, u32, u32, &[u8], usize, usize, &mut [u8], &mut usize) 
 type Step = fn(&mut [u64; 7], &[u8], u32, &mut [u8], &mut [u32; 4]) -> u32;
 type Post = fn(&mut [u8], &mut [usize; 2], u32, &[u8]) -> u32;
 type Take = fn(&[u8], &mut [usize; 2], &mut [u8], &mut u32, &mut usize) -> u32;
+type Table = fn(&[u8], u64, u64, &mut [usize; 2]) -> u32;
+type Find = fn(&[u8], u64, u64, &[u8], &mut [usize; 3]) -> u32;
 
 fn main() {
     print_head();
@@ -38,6 +45,8 @@ fn main() {
     post_and_take("post and take, 0 B", 0);
     post_and_take("post and take, 256 B", 256);
     post_and_take("post and take, 1,024 B", NOTICE);
+    table_check();
+    find();
 }
 
 fn sums() {
@@ -122,6 +131,29 @@ fn post_and_take(what: &str, length: usize) {
     assert_eq!(rust_ring.out[..length], data, "{what}: Rust's");
 }
 
+fn table_check() {
+    let region = ubios_table(b"table", &pattern(65_536 - 32));
+    assert_eq!(call_table(baseline::table, &region), (0, [0, 65_536]));
+    print_row(
+        "table check, 64 KiB",
+        || call_table(library::table, &region),
+        || call_table(baseline::table, &region),
+    );
+}
+
+/// Every slot leads to a table of another name; the last one's is sought.
+fn find() {
+    let last = SLOTS - 1;
+    let (region, name) = (root_and_tables(), table_name(last));
+    let expected = [last, ROOT + TABLE * last + 32, TABLE - 32];
+    assert_eq!(call_find(baseline::find, &region, &name), (0, expected));
+    print_row(
+        "find, 128 slots with 128 tables",
+        || call_find(library::find, &region, &name),
+        || call_find(baseline::find, &region, &name),
+    );
+}
+
 /// What the posts and takes are lent, besides the data.
 struct Ring {
     bytes: [u8; RING],
@@ -148,6 +180,39 @@ fn frames(message: &[u8; MESSAGE], piece_size: usize) -> Vec<Vec<u8>> {
         out[..length].to_vec()
     };
     (0..MESSAGE.div_ceil(piece_size)).map(frame).collect()
+}
+
+/// A root, and the tables that its slots lead to.
+fn root_and_tables() -> Vec<u8> {
+    let mut body = vec![SLOTS as u8, 0, 0, 0, 0, 0, 0, 0];
+    for slot in 0..SLOTS {
+        let address = BASE + (ROOT + TABLE * slot) as u64;
+        body.extend(address.to_le_bytes());
+    }
+    let mut region = ubios_table(b"root_table", &body);
+    assert_eq!(region.len(), ROOT);
+    for slot in 0..SLOTS {
+        region.extend(ubios_table(&table_name(slot), &pattern(TABLE - 32)));
+    }
+    region
+}
+
+fn table_name(slot: usize) -> [u8; 9] {
+    let name = format!("table {slot:03}").into_bytes();
+    name.try_into().expect("it has that length")
+}
+
+/// A table that passes.
+fn ubios_table(name: &[u8], body: &[u8]) -> Vec<u8> {
+    let mut table = vec![0; 32];
+    table.extend(body);
+    let total = table.len() as u32;
+    table[..name.len()].copy_from_slice(name);
+    table[16..20].copy_from_slice(&total.to_le_bytes());
+    table[20] = 1;
+    let checksum = baseline::sum32(&table).wrapping_neg();
+    table[28..32].copy_from_slice(&checksum.to_le_bytes());
+    table
 }
 
 /// Bytes that are not all alike.
@@ -220,4 +285,24 @@ fn call_post_and_take(post: Post, take: Take, data: &[u8], ring: &mut Ring) -> (
     let posted = post(bytes, positions, black_box(ID), data);
     let taken = take(bytes, positions, out, &mut id, &mut data_len);
     (posted + taken, id, data_len)
+}
+
+#[inline(always)]
+fn call_table(table: Table, region: &[u8]) -> (u32, [usize; 2]) {
+    let mut part = [0; 2];
+    let answer = table(
+        black_box(region),
+        black_box(BASE),
+        black_box(BASE),
+        &mut part,
+    );
+    (answer, part)
+}
+
+#[inline(always)]
+fn call_find(find: Find, region: &[u8], name: &[u8; 9]) -> (u32, [usize; 3]) {
+    let mut body = [0; 3];
+    let (region, name) = (black_box(region), black_box(name));
+    let answer = find(region, black_box(BASE), black_box(BASE), name, &mut body);
+    (answer, body)
 }

@@ -6,6 +6,9 @@ pub mod memory;
 pub mod notice;
 pub mod random;
 pub mod reassembly;
+pub mod scene;
+pub mod tables;
+pub mod ubios;
 
 use std::env;
 

@@ -32,6 +32,7 @@ fn declarator(name: &str, kind: &str) -> String {
     match kind {
         "u8" => format!("uint8_t {name}"),
         "u32" => format!("uint32_t {name}"),
+        "u64" => format!("uint64_t {name}"),
         "usize" => format!("size_t {name}"),
         "*const u8" => format!("const uint8_t *{name}"),
         "*mut u8" => format!("uint8_t *{name}"),
@@ -40,7 +41,10 @@ fn declarator(name: &str, kind: &str) -> String {
         "*mut [u32; 6]" => format!("uint32_t {name}[HS_HEADER_WORDS]"),
         "*mut [u32; 4]" => format!("uint32_t {name}[HS_WORDS]"),
         "*mut [u64; 7]" => format!("uint64_t {name}[HS_STATE_NUMBERS]"),
-        "*mut [usize; 2]" => format!("size_t {name}[HS_POSITIONS]"),
+        "*mut [usize; 2]" if name == "positions" => format!("size_t {name}[HS_POSITIONS]"),
+        "*mut [usize; 2]" if name == "part" => format!("size_t {name}[HS_TABLE_NUMBERS]"),
+        "*mut [usize; 3]" if name == "root" => format!("size_t {name}[HS_ROOT_NUMBERS]"),
+        "*mut [usize; 3]" if name == "body" => format!("size_t {name}[HS_BODY_NUMBERS]"),
         _ => panic!("{name}: no C type is listed here for {kind}"),
     }
 }
@@ -62,7 +66,7 @@ fn is_function(word: &str) -> bool {
 }
 
 /// Sizes, places of the header's words, answers, and refusals by their numbers in document 01.
-const CONSTANTS: [(&str, usize); 41] = [
+const CONSTANTS: [(&str, usize); 59] = [
     ("HS_HEADER_SIZE", hoursquall::HEADER_SIZE),
     ("HS_FRAME_MAX", hoursquall::FRAME_MAX),
     ("HS_PIECE_MAX", hoursquall::PIECE_MAX),
@@ -71,6 +75,11 @@ const CONSTANTS: [(&str, usize); 41] = [
     ("HS_RING_MAX", hoursquall::RING_MAX),
     ("HS_NOTICE_HEADER_SIZE", hoursquall::NOTICE_HEADER_SIZE),
     ("HS_NOTICE_MAX", hoursquall::NOTICE_MAX),
+    ("HS_TABLE_HEADER_SIZE", hoursquall::TABLE_HEADER_SIZE),
+    ("HS_ROOT_HEADER_SIZE", hoursquall::ROOT_HEADER_SIZE),
+    ("HS_TABLE_MAX", hoursquall::TABLE_MAX),
+    ("HS_SLOTS_MAX", hoursquall::SLOTS_MAX),
+    ("HS_NAME_MAX", hoursquall::NAME_MAX),
     ("HS_HEADER_INDEX", 0),
     ("HS_HEADER_ID", 1),
     ("HS_HEADER_SENDER", 2),
@@ -81,6 +90,9 @@ const CONSTANTS: [(&str, usize); 41] = [
     ("HS_STATE_NUMBERS", 7),
     ("HS_WORDS", 4),
     ("HS_POSITIONS", 2),
+    ("HS_TABLE_NUMBERS", 2),
+    ("HS_ROOT_NUMBERS", 3),
+    ("HS_BODY_NUMBERS", 3),
     ("HS_OK", 0),
     ("HS_MORE", 0),
     ("HS_DELIVERED", 100),
@@ -104,6 +116,16 @@ const CONSTANTS: [(&str, usize); 41] = [
     ("HS_REFUSED_NOTICE_OUTPUT_SHORT", 23),
     ("HS_REFUSED_NOTICE_LONG", 24),
     ("HS_REFUSED_FULL", 25),
+    ("HS_REFUSED_TABLE_OUTSIDE", 30),
+    ("HS_REFUSED_TABLE_MISALIGNED", 31),
+    ("HS_REFUSED_TABLE_SIZE", 32),
+    ("HS_REFUSED_TABLE_VERSION", 33),
+    ("HS_REFUSED_TABLE_SUM", 34),
+    ("HS_REFUSED_NOT_ROOT", 35),
+    ("HS_REFUSED_SLOT_COUNT", 36),
+    ("HS_REFUSED_NO_TABLE", 37),
+    ("HS_REFUSED_TWO_TABLES", 38),
+    ("HS_REFUSED_BAD_NAME", 39),
 ];
 
 #[test]

@@ -1,12 +1,14 @@
-//! The specification's own numbers for frames, reassembly, notices and sums, on the library and on
-//! the reference.
+//! The specification's own numbers for frames, reassembly, notices, UBIOS tables and sums, on the
+//! library and on the reference.
 
 use differential::frames::{library_frames, reference_frames, Frames};
 use differential::notice;
 use differential::random::Random;
 use differential::reassembly::Machine;
+use differential::ubios::{self, Seen};
 use hoursquall::{Envelope, Verdict};
 use reference::notice::Positions;
+use reference::ubios::Root;
 
 /// What is checked, of either implementation.
 struct Implementation {
@@ -97,6 +99,35 @@ fn ring_of_sixteen() {
     assert_eq!(machine.ring()[15], 1);
     assert_eq!(machine.ring()[..9], [2, 3, 4, 2, 0, 0, 0, 5, 6]);
     assert_eq!(machine.positions(), Positions { read: 15, write: 9 });
+}
+
+/// Total Size 40, Version 1, all else 0: the checksum that makes it pass, and no other does.
+#[test]
+fn shortest_root() {
+    let mut root = [0; 40];
+    root[..10].copy_from_slice(b"root_table");
+    root[16] = 40;
+    root[20] = 1;
+    for Implementation { name, sum32, .. } in BOTH {
+        assert_eq!(sum32(&root).wrapping_neg(), 0x292E_B69A, "{name}");
+    }
+    let passing = Root {
+        offset: 0,
+        used: 40,
+        count: 0,
+    };
+    assert_eq!(checked(root, 0x292E_B69A), Ok(passing));
+    assert_eq!(checked(root, 0x292E_B699), Err(34));
+    assert_eq!(checked(root, 0x292E_B69B), Err(34));
+    assert_eq!(checked(root, 0), Err(34));
+}
+
+/// The root with that checksum, checked by a machine that compares the two implementations.
+fn checked(mut root: [u8; 40], checksum: u32) -> Result<Root, u32> {
+    root[28..32].copy_from_slice(&checksum.to_le_bytes());
+    let mut seen = Seen::new();
+    let mut machine = ubios::Machine::new(&mut Random::new(72), &root, 0x1000, &mut seen);
+    machine.check_root(0x1000)
 }
 
 #[test]

@@ -1,5 +1,5 @@
-//! Message frames, their reassembly, the notice ring and table sums: safe wrappers over the proved
-//! static library.
+//! Message frames, their reassembly, the notice ring, UBIOS tables and table sums: safe wrappers
+//! over the proved static library.
 //!
 //! ```
 //! use hoursquall::{count, data, parse, write, Envelope, FRAME_MAX};
@@ -21,9 +21,11 @@
 mod notice;
 pub mod raw;
 mod reassembly;
+mod ubios;
 
 pub use notice::{Notice, Positions};
 pub use reassembly::{Reassembly, Verdict, Words};
+pub use ubios::{Body, Region, Root, Table};
 
 /// Bytes of a frame's header.
 pub const HEADER_SIZE: usize = 24;
@@ -41,6 +43,16 @@ pub const RING_MAX: usize = 65_536;
 pub const NOTICE_HEADER_SIZE: usize = 8;
 /// Bytes of data that a notice has at most.
 pub const NOTICE_MAX: usize = 1024;
+/// Bytes of a UBIOS table's header.
+pub const TABLE_HEADER_SIZE: usize = 32;
+/// Bytes of the root's header.
+pub const ROOT_HEADER_SIZE: usize = 40;
+/// Bytes that a UBIOS table has at most.
+pub const TABLE_MAX: usize = 65_536;
+/// Slots that the root has at most.
+pub const SLOTS_MAX: usize = 128;
+/// Bytes that a UBIOS table's name has at most.
+pub const NAME_MAX: usize = 16;
 
 /// A refusal's number in the specification.
 pub type Refusal = u32;

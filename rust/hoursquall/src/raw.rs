@@ -57,4 +57,30 @@ extern "C" {
         id: *mut u32,
         data_len: *mut usize,
     ) -> u32;
+
+    pub fn hs_ubios_table(
+        region: *const u8,
+        region_len: usize,
+        base: u64,
+        address: u64,
+        part: *mut [usize; 2],
+    ) -> u32;
+
+    pub fn hs_ubios_root(
+        region: *const u8,
+        region_len: usize,
+        base: u64,
+        address: u64,
+        root: *mut [usize; 3],
+    ) -> u32;
+
+    pub fn hs_ubios_find(
+        region: *const u8,
+        region_len: usize,
+        base: u64,
+        root: u64,
+        name: *const u8,
+        name_len: usize,
+        body: *mut [usize; 3],
+    ) -> u32;
 }

@@ -7,3 +7,4 @@ pub mod frame;
 pub mod notice;
 pub mod reassembly;
 pub mod sum;
+pub mod ubios;

@@ -7,11 +7,18 @@ use Rattle.le.proofs.word.u64_at.Tie as tie
 tail-requires : tie.Need-tail-requires
 tail-requires c κs = search needs
 
+whole-u64-requires : tie.Need-whole-u64-requires
+whole-u64-requires c κs = search needs
+
 first-u64-requires : tie.Need-first-u64-requires
 first-u64-requires c κs = search needs
 
 returns : tie.Need-returns
 returns c = cc
 
+returns-2 : tie.Need-returns-2
+returns-2 c = cc
+
 pub u64-at-spec : {M : Type 1} → statement M
-u64-at-spec = tie.close (tie.spec tail-requires first-u64-requires returns)
+u64-at-spec =
+    tie.close (tie.spec tail-requires whole-u64-requires first-u64-requires returns returns-2)

@@ -1,38 +1,31 @@
 -- `ubios::Root::judge` meets its contract: at each `return` the tests that led there say which answer it is.
 -- Assumes nothing.
-use Prim.Native.Nat.{ℕ}
 use mathlib.Core.Bool.{true}
-use mathlib.Core.Path.{_≡_, sym, ap, _∙_}
-use mathlib.Core.List.{List}
+use mathlib.Core.Path.{_≡_, sym, _∙_}
 use borrow.Author.Tests.{not-true, not-false}
 use Rattle.le.specs.Compare.{same}
 use Rattle.ubios.specs.Layout.{nameOf, rootName}
 use Rattle.ubios.proofs.Answers.{root-name, root-count, root-passed, many-slots, beyond-used, good-count}
+use Rattle.ubios.proofs.Names.{root-name-good}
 use borrow.Author.Needs.{needs}
 use Rattle.ubios.proofs.Root.judge.Statement.{statement}
 use Rattle.ubios.proofs.Root.judge.Tie as tie
 
-name-of-requires : tie.Need-name-of-requires
-name-of-requires c κs = search needs
+slice-aggregate-is-named : tie.Need-slice-aggregate-is-named
+slice-aggregate-is-named c = search needs
 
-slice-aggregate-same : tie.Need-slice-aggregate-same
-slice-aggregate-same c = search needs
-
-same-requires : tie.Need-same-requires
-same-requires c κs = search needs
+is-named-requires : tie.Need-is-named-requires
+is-named-requires c κs = root-name-good
 
 -- the test of the name
-abbrev start : tie.After-same → tie.Start
-start c = c .before .before .before .before
-
-tested : (c : tie.After-same) → c .same .result ≡ same (nameOf (start c .args .root .now)) rootName
-tested c = c .same .ensures ∙ ap (λ (n : List ℕ). same n rootName) (c .before .before .name-of .ensures)
+abbrev start : tie.After-is-named → tie.Start
+start c = c .before .before .before
 
 named : (c : tie.Else1) → same (nameOf (start (c .before) .args .root .now)) rootName ≡ true
-named c = sym (tested (c .before)) ∙ not-false _ (c .if1 .left)
+named c = sym (c .before .is-named .ensures) ∙ not-false _ (c .if1 .left)
 
 returns : tie.Need-returns
-returns c = sym (root-name _ _ (sym (tested (c .before)) ∙ not-true _ (c .if1 .taken)))
+returns c = sym (root-name _ _ (sym (c .before .is-named .ensures) ∙ not-true _ (c .if1 .taken)))
 
 u16-at-requires : tie.Need-u16-at-requires
 u16-at-requires c κs = search needs
@@ -65,9 +58,8 @@ pub judge-spec : {M : Type 1} → statement M
 judge-spec =
     tie.close
     (tie.spec
-    name-of-requires
-    slice-aggregate-same
-    same-requires
+    slice-aggregate-is-named
+    is-named-requires
     returns
     u16-at-requires
     cast-count

@@ -55,7 +55,7 @@ known : (c : tie.After-tail2)
 known c = let a = start c .args in rooted (a .base) (a .region .now) (a .root) _ (passed c)
 
 walk-requires : tie.Need-walk-requires
-walk-requires c κs = few-slots _ _ (known c .counted) .0
+walk-requires c κs = (few-slots _ _ (known c .counted) .0, good (c .before .before .before .before .before .before .before))
 
 returns-2 : tie.Need-returns-2
 returns-2 c =

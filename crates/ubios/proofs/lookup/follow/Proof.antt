@@ -15,14 +15,12 @@ use Rattle.ubios.proofs.lookup.follow.Statement.{statement}
 use Rattle.ubios.proofs.lookup.follow.Tie as tie
 
 -- the function's entry, seen from the test of the name
-abbrev start : tie.After-same → tie.Start
-start c = c .before .before .before .before .before .before .before
+abbrev start : tie.After-is-named → tie.Start
+start c = c .before .before .before .before .before .before
 
-tested : (c : tie.After-same)
-    → c .same .result ≡ same (nameOf (tableAt (start c .args .base) (start c .args .region .now) (start c .args .address))) (start c .args .name .now)
-tested c =
-    c .same .ensures
-    ∙ ap (λ (n : List ℕ). same n (start c .args .name .now)) (c .before .name-of .ensures ∙ ap (λ (t : List ℕ). nameOf t) (c .before .before .tail .ensures))
+tested : (c : tie.After-is-named)
+    → c .is-named .result ≡ same (nameOf (tableAt (start c .args .base) (start c .args .region .now) (start c .args .address))) (start c .args .name .now)
+tested c = c .is-named .ensures ∙ ap (λ (t : List ℕ). same (nameOf t) (start c .args .name .now)) (c .before .tail .ensures)
 
 returns : tie.Need-returns
 returns c =
@@ -37,11 +35,8 @@ returns-2 c =
 tail-requires : tie.Need-tail-requires
 tail-requires c κs = search needs
 
-name-of-requires : tie.Need-name-of-requires
-name-of-requires c κs = search needs
-
-same-requires : tie.Need-same-requires
-same-requires c κs = search needs
+is-named-requires : tie.Need-is-named-requires
+is-named-requires c κs = search needs
 
 returns-3 : tie.Need-returns-3
 returns-3 c =
@@ -66,11 +61,11 @@ passed : (c : tie.After-struct-known)
     → checked tableHeader (entry c .args .base) (entry c .args .region .now) (entry c .args .address) ≡ Passed (c .before .before .table .given .0 .0)
 passed c = sym (c .before .before .before .before .check .ensures) ∙ c .before .before .table .given .1
 
-add-t15 : tie.Need-add-t15
-add-t15 c = let inside = header-fits tableHeader _ _ _ _ (passed c) in search needs
+add-t14 : tie.Need-add-t14
+add-t14 c = let inside = header-fits tableHeader _ _ _ _ (passed c) in search needs
 
-sub-t16 : tie.Need-sub-t16
-sub-t16 c = let held = header-used tableHeader _ _ _ _ (passed (c .before)) in search needs
+sub-t15 : tie.Need-sub-t15
+sub-t15 c = let held = header-used tableHeader _ _ _ _ (passed (c .before)) in search needs
 
 returns-4 : tie.Need-returns-4
 returns-4 c =
@@ -83,7 +78,7 @@ returns-5 : tie.Need-returns-5
 returns-5 c =
     let a = entry (c .before) .args in
     let at-name = c .before .before .before .before .before .before in
-    sym (hit (a .base) (a .region .now) (a .name .now) (a .address) (a .slot) _ (ne-eqb _ _ (at-name .before .before .before .before .before .if1 .left)) (passed (c .before)) (sym (tested (at-name .before)) ∙ not-false _ (at-name .if3 .left)))
+    sym (hit (a .base) (a .region .now) (a .name .now) (a .address) (a .slot) _ (ne-eqb _ _ (at-name .before .before .before .before .if1 .left)) (passed (c .before)) (sym (tested (at-name .before)) ∙ not-false _ (at-name .if3 .left)))
 
 pub follow-spec : {M : Type 1} → statement M
 follow-spec =
@@ -92,13 +87,12 @@ follow-spec =
     returns
     returns-2
     tail-requires
-    name-of-requires
-    same-requires
+    is-named-requires
     returns-3
     check-requires
     enum-told
     enum-known-table
-    add-t15
-    sub-t16
+    add-t14
+    sub-t15
     returns-4
     returns-5)
