@@ -13,8 +13,10 @@ use Rattle.notice.specs.Ring.{badRing, waiting, moved, posted, takenOf}
 use Rattle.notice.specs.Queue.{run, end}
 use Rattle.ubios.specs.Layout.{upToZero}
 use Rattle.ubios.specs.Checks.{outside, badSize, judged, checked, rootJudged, rootChecked}
+use Rattle.sfi.specs.Kinds.{among}
+use Rattle.sfi.specs.Checks.{badLength, badEntries, judged as sfiJudged, checked as sfiChecked}
 use Rattle.cases.specs.Cases.{isCount, isLength, holds, allHold, starred, StarredHold}
 
 pub starred-hold : StarredHold
-unfolding word bytes total totalOf sum headerBytes parsed countOf counted written consistent sameWords accept begin proceed received stepOf verdicts badRing waiting moved posted takenOf run end upToZero outside badSize judged checked rootJudged rootChecked same isCount isLength holds allHold starred
+unfolding word bytes total totalOf sum headerBytes parsed countOf counted written consistent sameWords accept begin proceed received stepOf verdicts badRing waiting moved posted takenOf run end upToZero outside badSize judged checked rootJudged rootChecked among badLength badEntries sfiJudged sfiChecked same isCount isLength holds allHold starred
 starred-hold = refl

@@ -1,5 +1,5 @@
--- Document 01, "Numbers to check by": the starred numbers of what is built so far, as one table and one statement over it. Each row is a
--- question to the definitions that the code is proved to meet, and the answer that the document gives. That of the SFI tables joins with their crate.
+-- Document 01, "Numbers to check by": the starred numbers, as one table and one statement over it. Each row is a question to the definitions
+-- that the code is proved to meet, and the answer that the document gives.
 -- Assumes nothing.
 use Prim.Native.Nat.{ℕ, _+_}
 use mathlib.Core.Bool.{Bool, true, false, _&&_}
@@ -25,6 +25,11 @@ use Rattle.ubios.specs.Checks as Checks
 use Rattle.ubios.specs.Statements.{headOf, checksumOf}
 use Rattle.ubios.specs.declared.RootChecked.{RootChecked}
 use Rattle.ubios.specs.declared.RootChecked.the-variants.{Passed as RootPassed, Refused as RootRefused}
+use Rattle.sfi.specs.Kinds.{cpus}
+use Rattle.sfi.specs.Checks as SfiChecks
+use Rattle.sfi.specs.Statements as SfiTables
+use Rattle.sfi.specs.declared.Checked as Sfi
+use Rattle.sfi.specs.declared.Checked.the-variants.{Passed as SfiPassed, Refused as SfiRefused}
 use Rattle.frame.specs.declared.write.Counted.{Counted}
 use Rattle.frame.specs.declared.write.Counted.the-variants.{Frames, Refused as Uncounted}
 use Rattle.frame.specs.declared.write.Written.{Written}
@@ -50,6 +55,10 @@ pub data Case : Type 0 where
   checksums : List ℕ → List ℕ → ℕ → Case
   -- the refusal of these bytes as a UBIOS root, which stands at address 4,096 where memory starts; 0 where it passes
   roots : List ℕ → ℕ → Case
+  -- the Checksum of an SFI table with this head, and with these bytes behind its Checksum
+  sfiChecksums : List ℕ → List ℕ → ℕ → Case
+  -- the refusal of these bytes as an SFI table; 0 where it passes
+  sfiTables : List ℕ → ℕ → Case
 
 unfoldable pub isCount : Counted → ℕ → Bool
 isCount (Frames n) expected = eqb n expected
@@ -74,6 +83,10 @@ abbrev pub rootRefusal : RootChecked → ℕ
 rootRefusal (RootPassed root) = 0
 rootRefusal (RootRefused reason) = Checks.numberOf reason
 
+abbrev pub sfiRefusal : Sfi.Checked → ℕ
+sfiRefusal (SfiPassed table) = 0
+sfiRefusal (SfiRefused reason) = SfiChecks.numberOf reason
+
 -- 256 zero bytes
 abbrev pub output : List ℕ
 output = replicate 256 0
@@ -94,6 +107,8 @@ holds (leaves ops read write expected) =
     && same (end ringStep (empty 0 (replicate 16 0)) ops .bytes) expected)
 holds (checksums head body expected) = eqb (checksumOf head body) expected
 holds (roots s expected) = eqb (rootRefusal (Checks.rootChecked 4096 s 4096)) expected
+holds (sfiChecksums head behind expected) = eqb (SfiTables.checksumOf head behind) expected
+holds (sfiTables s expected) = eqb (sfiRefusal (SfiChecks.checked s)) expected
 
 unfoldable pub allHold : List Case → Bool
 unfolding holds
@@ -118,8 +133,12 @@ two = record { id = 0x0A0B0C0D; body = 0xEE ∷ 0xFF ∷ [] }
 pub rootHead : List ℕ
 rootHead = headOf (rootName ++ replicate 6 0) 40 0
 
+-- the head of CPUS with Length 28 and Revision 1
+pub cpusHead : List ℕ
+cpusHead = SfiTables.headOf cpus 28
+
 unfoldable pub starred : List Case
-unfolding envelope message seven two rootHead
+unfolding envelope message seven two rootHead cpusHead
 starred =
     -- piece 2: three frames of 26, 26, 25 bytes
     counts 5 2 3
@@ -148,6 +167,9 @@ starred =
     ∷ roots (rootHead ++ (bytes 4 0x292EB69A ++ replicate 8 0)) 0
     -- used bytes 01 00 00 00 FF sum to 0x100
     ∷ sums 4 (1 ∷ 0 ∷ 0 ∷ 0 ∷ 0xFF ∷ []) 0x100
+    -- CPUS with Length 28, Revision 1, the rest 0: Checksum 0xA8
+    ∷ sfiChecksums cpusHead (replicate 18 0) 0xA8
+    ∷ sfiTables (cpusHead ++ (0xA8 ∷ replicate 18 0)) 0
     ∷ []
 
 -- the one statement: each of these numbers holds

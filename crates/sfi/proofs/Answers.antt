@@ -1,0 +1,175 @@
+-- The laws of the checks: one for each answer, with what leads there.
+-- Assumes nothing.
+use Prim.Native.Nat.{ℕ, _+_, _*_, _-_, _/_, _%_, _≤_, _<_}
+use mathlib.Core.Bool.{Bool, true, false, not}
+use mathlib.Core.Path.{_≡_, refl, subst, _∙_}
+use mathlib.Core.List.{List}
+use borrow.Author.Tests.{lt-ltb, le-ltb, eq-eqb, ne-eqb, ltb-false, eqb-true, eqb-false}
+use native.Mathlib.Nat.{suc-mul, le-div-iff-mul-le}
+use native.Mathlib.Omega.{arith}
+use lib.Dec.{ltb, eqb}
+use lib.ListN.{length}
+use Rattle.le.specs.Sum.{sum}
+use Rattle.le.proofs.Tests.{apart, neither}
+use Rattle.sfi.specs.Kinds.{wake, kindOf}
+use Rattle.sfi.specs.Checks.{headerSize, lengthMax, signatureOf, lengthOf, revisionOf, summedPart, badLength, wrongRevision, badEntries, judged, checked, entriesOf, entryAt, entryOf, passesAs}
+use Rattle.sfi.specs.declared.kind.Kind.{Kind}
+use Rattle.sfi.specs.declared.kind.Known.{Known}
+use Rattle.sfi.specs.declared.kind.Known.the-variants.{Is, Unknown}
+use Rattle.sfi.specs.declared.Table.{Table}
+use Rattle.sfi.specs.declared.Reason.{Reason}
+use Rattle.sfi.specs.declared.Reason.the-variants.{BadLength, WrongSum, UnknownSignature, BadEntries, WrongRevision, NoEntry}
+use Rattle.sfi.specs.declared.Checked.the-variants.{Passed, Refused}
+use Rattle.sfi.specs.declared.Entry.the-variants.{At, Refused as NotThere}
+use Rattle.sfi.proofs.Listing.{listed}
+
+-- which lengths are bad
+module _ (size total : ℕ) where
+  pub short-slice : size < headerSize → badLength size total ≡ true
+  unfolding badLength
+  short-slice h = rw (lt-ltb size headerSize h)
+
+  module _ (holds : headerSize ≤ size) where
+    pub under-header : total < headerSize → badLength size total ≡ true
+    unfolding badLength
+    under-header h = rw (le-ltb size headerSize holds, lt-ltb total headerSize h)
+
+    module _ (least : headerSize ≤ total) where
+      pub over-most : lengthMax < total → badLength size total ≡ true
+      unfolding badLength
+      over-most h = rw (le-ltb size headerSize holds, le-ltb total headerSize least, lt-ltb lengthMax total h)
+
+      pub by-slice : total ≤ lengthMax → badLength size total ≡ ltb size total
+      unfolding badLength
+      by-slice h = rw (le-ltb size headerSize holds, le-ltb total headerSize least, le-ltb lengthMax total h)
+
+-- what is known of a length that is not
+pub record Sized (size total : ℕ) : Type 0 where
+  pub least : headerSize ≤ total
+  pub most : total ≤ lengthMax
+  pub inside : total ≤ size
+
+pub sized : (size total : ℕ) → badLength size total ≡ false → Sized size total
+unfolding badLength
+sized size total e =
+    let p = neither (ltb size headerSize) _ e in
+    let q = neither (ltb total headerSize) _ (p .1) in
+    let r = neither (ltb lengthMax total) _ (q .1) in
+    record { least = ltb-false total headerSize (q .0); most = ltb-false lengthMax total (r .0); inside = ltb-false size total (r .1) }
+
+-- a slice of just that length
+pub length-good : (total : ℕ) → headerSize ≤ total → total ≤ lengthMax → badLength total total ≡ false
+length-good total least most = by-slice total total least least most ∙ le-ltb total total (omega arith)
+
+-- which lengths do not go with a kind's entries
+module _ (kind : Kind) (total : ℕ) where
+  pub uneven : ((total - headerSize) % kind .entry ≡ 0 → ⊥) → badEntries kind total ≡ true
+  unfolding badEntries
+  uneven ne = rw (ne-eqb ((total - headerSize) % kind .entry) 0 ne)
+
+  module _ (even : (total - headerSize) % kind .entry ≡ 0) where
+    pub not-wake : (kind .signature ≡ wake .signature → ⊥) → badEntries kind total ≡ false
+    unfolding badEntries
+    not-wake ne = rw (eq-eqb ((total - headerSize) % kind .entry) 0 even, ne-eqb (kind .signature) (wake .signature) ne)
+
+    pub wake-length : kind .signature ≡ wake .signature → badEntries kind total ≡ not (eqb total 32)
+    unfolding badEntries
+    wake-length e = rw (eq-eqb ((total - headerSize) % kind .entry) 0 even, eq-eqb (kind .signature) (wake .signature) e)
+
+-- 44, 43, 41
+module _ (kind : Kind) (t : List ℕ) where
+  pub judged-revision : wrongRevision kind (revisionOf t) ≡ true → judged kind t ≡ Refused WrongRevision
+  unfolding judged
+  judged-revision e = rw e
+
+  module _ (revision : wrongRevision kind (revisionOf t) ≡ false) where
+    pub judged-entries : badEntries kind (lengthOf t) ≡ true → judged kind t ≡ Refused BadEntries
+    unfolding judged
+    judged-entries e = rw (revision, e)
+
+    module _ (entries : badEntries kind (lengthOf t) ≡ false) where
+      pub judged-sum : (sum 1 (summedPart t) ≡ 0 → ⊥) → judged kind t ≡ Refused WrongSum
+      unfolding judged
+      judged-sum ne = rw (revision, entries, ne-eqb (sum 1 (summedPart t)) 0 ne)
+
+      pub judged-passed : sum 1 (summedPart t) ≡ 0 → judged kind t ≡ Passed (record { kind = kind; length = lengthOf t })
+      unfolding judged
+      judged-passed e = rw (revision, entries, eq-eqb (sum 1 (summedPart t)) 0 e)
+
+-- 40, 42, and what is left to them
+module _ (t : List ℕ) where
+  pub bad-length : badLength (length t) (lengthOf t) ≡ true → checked t ≡ Refused BadLength
+  unfolding checked
+  bad-length e = rw e
+
+  module _ (size : badLength (length t) (lengthOf t) ≡ false) where
+    pub unknown : kindOf (signatureOf t) ≡ Unknown → checked t ≡ Refused UnknownSignature
+    unfolding checked
+    unknown e = rw (size, e)
+
+    pub known : (kind : Kind) → kindOf (signatureOf t) ≡ Is kind → checked t ≡ judged kind t
+    unfolding checked
+    known kind e = rw (size, e)
+
+-- all that is known of a table that passes
+pub record Passing (t : List ℕ) (table : Table) : Type 0 where
+  pub sized : Sized (length t) (lengthOf t)
+  pub kind : kindOf (signatureOf t) ≡ Is (table .kind)
+  pub revision : wrongRevision (table .kind) (revisionOf t) ≡ false
+  pub entries : badEntries (table .kind) (lengthOf t) ≡ false
+  pub zero : sum 1 (summedPart t) ≡ 0
+  pub length-is : table .length ≡ lengthOf t
+
+pub passing : (t : List ℕ) (table : Table) → checked t ≡ Passed table → Passing t table
+passing t table e = by-length (badLength (length t) (lengthOf t)) refl
+  where
+    by-sum : badLength (length t) (lengthOf t) ≡ false → (k : Kind) → kindOf (signatureOf t) ≡ Is k → wrongRevision k (revisionOf t) ≡ false → badEntries k (lengthOf t) ≡ false
+        → (b : Bool) → eqb (sum 1 (summedPart t)) 0 ≡ b → Passing t table
+    by-sum s k i r n true q =
+        let z = eqb-true (sum 1 (summedPart t)) 0 q in
+        let all = known t s k i ∙ judged-passed k t r n z in
+        let is : record { kind = k; length = lengthOf t } ≡ table = cc in
+        subst (Passing t) is (record { sized = sized (length t) (lengthOf t) s; kind = i; revision = r; entries = n; zero = z; length-is = refl })
+    by-sum s k i r n false q =
+        let all = known t s k i ∙ judged-sum k t r n (eqb-false (sum 1 (summedPart t)) 0 q) in apart (cc)
+
+    by-entries : badLength (length t) (lengthOf t) ≡ false → (k : Kind) → kindOf (signatureOf t) ≡ Is k → wrongRevision k (revisionOf t) ≡ false
+        → (b : Bool) → badEntries k (lengthOf t) ≡ b → Passing t table
+    by-entries s k i r true q = let all = known t s k i ∙ judged-entries k t r q in apart (cc)
+    by-entries s k i r false q = by-sum s k i r q (eqb (sum 1 (summedPart t)) 0) refl
+
+    by-revision : badLength (length t) (lengthOf t) ≡ false → (k : Kind) → kindOf (signatureOf t) ≡ Is k
+        → (b : Bool) → wrongRevision k (revisionOf t) ≡ b → Passing t table
+    by-revision s k i true q = let all = known t s k i ∙ judged-revision k t q in apart (cc)
+    by-revision s k i false q = by-entries s k i q (badEntries k (lengthOf t)) refl
+
+    by-kind : badLength (length t) (lengthOf t) ≡ false → (m : Known) → kindOf (signatureOf t) ≡ m → Passing t table
+    by-kind s (Is k) q = by-revision s k q (wrongRevision k (revisionOf t)) refl
+    by-kind s Unknown q = let all = unknown t s q in apart (cc)
+
+    by-length : (b : Bool) → badLength (length t) (lengthOf t) ≡ b → Passing t table
+    by-length true q = let all = bad-length t q in apart (cc)
+    by-length false q = by-kind q (kindOf (signatureOf t)) refl
+
+-- a table that passes has the signature of its kind
+pub passes-as : (t : List ℕ) (table : Table) (signature : ℕ) → checked t ≡ Passed table → passesAs signature (checked t) ≡ eqb (signatureOf t) signature
+passes-as t table signature e = rw (e, listed (signatureOf t) (table .kind) (passing t table e .kind) .signed)
+
+pub fails-as : (t : List ℕ) (reason : Reason) (signature : ℕ) → checked t ≡ Refused reason → passesAs signature (checked t) ≡ false
+fails-as t reason signature e = rw e
+
+-- an entry that a table has ends where the table does, or before
+pub entry-end : (total size k : ℕ) → 0 < size → k < total / size → k * size + size ≤ total
+entry-end total size k some h = omega (arith, suc-mul k size, le-div-iff-mul-le some .0 h)
+
+-- the entries
+module _ (t : List ℕ) (k : ℕ) where
+  pub no-table : (reason : Reason) → checked t ≡ Refused reason → entryOf t k ≡ NotThere reason
+  no-table reason e = rw e
+
+  module _ (table : Table) (passes : checked t ≡ Passed table) where
+    pub has-entry : k < entriesOf table → entryOf t k ≡ At (entryAt table k)
+    has-entry h = rw (passes, lt-ltb k (entriesOf table) h)
+
+    pub no-entry : entriesOf table ≤ k → entryOf t k ≡ NotThere NoEntry
+    no-entry h = rw (passes, le-ltb k (entriesOf table) h)

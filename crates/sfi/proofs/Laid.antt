@@ -1,0 +1,90 @@
+-- `laid-passes`: a table of a listed kind that is laid out by the rules passes its checks.
+-- Assumes nothing.
+use Prim.Native.Nat.{ℕ, _+_, _≤_}
+use mathlib.Core.Bool.{false}
+use mathlib.Core.Path.{_≡_, refl, sym, ap, _∙_}
+use mathlib.Core.List.{List, _++_, append-assoc}
+use borrow.Author.Tests.{eq-eqb, le-ltb}
+use native.Mathlib.Omega.{arith}
+use lib.ListN.{length, take, drop, length-append}
+use lib.Seq.{take-at, drop-at, drop-drop}
+use Rattle.le.specs.Word.{word, bytes}
+use Rattle.le.specs.Sum.{sum}
+use Rattle.le.proofs.Words.{word-bytes, length-bytes}
+use Rattle.le.proofs.Sums.{checksum}
+use Rattle.sfi.specs.Kinds.{kindOf}
+use Rattle.sfi.specs.Checks.{headerSize, lengthMax, signatureOf, lengthOf, revisionOf, summedPart, badLength, wrongRevision, badEntries, checked}
+use Rattle.sfi.specs.Statements.{headOf, checksumOf, tableOf, LaidPasses}
+use Rattle.sfi.specs.declared.kind.Kind.{Kind}
+use Rattle.sfi.specs.declared.kind.Known.the-variants.{Is}
+use Rattle.sfi.specs.declared.Checked.the-variants.{Passed}
+use Rattle.sfi.proofs.Listing.{Listed, listed}
+use Rattle.sfi.proofs.Answers.{by-slice, judged-passed, known}
+
+module _ (kind : Kind) (oem entries rest : List ℕ)
+    (is : kindOf (kind .signature) ≡ Is kind)
+    (strings : length oem ≡ 14)
+    (most : headerSize + length entries ≤ lengthMax) where
+  abbrev total : ℕ
+  total = headerSize + length entries
+
+  abbrev head : List ℕ
+  head = headOf kind total
+
+  abbrev table : List ℕ
+  table = tableOf kind oem entries ++ rest
+
+  -- what follows Revision
+  abbrev behind : List ℕ
+  behind = bytes 1 (checksumOf head (oem ++ entries)) ++ (oem ++ entries) ++ rest
+
+  facts : Listed (kind .signature) kind
+  facts = listed (kind .signature) kind is
+
+  here : table ≡ bytes 4 (kind .signature) ++ (bytes 4 total ++ (bytes 1 (kind .revision) ++ behind))
+  here =
+      append-assoc head (bytes 1 (checksumOf head (oem ++ entries)) ++ (oem ++ entries)) rest
+      ∙ append-assoc (bytes 4 (kind .signature)) (bytes 4 total ++ bytes 1 (kind .revision)) behind
+      ∙ ap (λ (l : List ℕ). bytes 4 (kind .signature) ++ l) (append-assoc (bytes 4 total) (bytes 1 (kind .revision)) behind)
+
+  signature-is : signatureOf table ≡ kind .signature
+  signature-is = ap (word 4) here ∙ word-bytes 4 (kind .signature) _ (facts .word)
+
+  behind-signature : drop 4 table ≡ bytes 4 total ++ (bytes 1 (kind .revision) ++ behind)
+  behind-signature = ap (drop 4) here ∙ drop-at (bytes 4 (kind .signature)) _ 4 (length-bytes 4 (kind .signature))
+
+  length-is : lengthOf table ≡ total
+  length-is = ap (word 4) behind-signature ∙ word-bytes 4 total (bytes 1 (kind .revision) ++ behind) (omega arith)
+
+  revision-is : revisionOf table ≡ kind .revision
+  revision-is =
+      ap (word 1) (sym (drop-drop 4 4 table) ∙ ap (drop 4) behind-signature ∙ drop-at (bytes 4 total) (bytes 1 (kind .revision) ++ behind) 4 (length-bytes 4 total))
+      ∙ word-bytes 1 (kind .revision) behind (facts .byte)
+
+  table-length : length (tableOf kind oem entries) ≡ total
+  table-length = simp (length-append, length-bytes) (omega arith)
+
+  head-length : length head ≡ 9
+  head-length = simp (length-append, length-bytes)
+
+  sums : sum 1 (summedPart table) ≡ 0
+  sums =
+      ap (λ (n : ℕ). sum 1 (take n table)) length-is
+      ∙ ap (sum 1) (take-at (tableOf kind oem entries) rest total table-length)
+      ∙ checksum 1 9 head (oem ++ entries) (omega arith) (head-length ∙ omega arith)
+
+  good : badLength (length table) (lengthOf table) ≡ false
+  good =
+      let size : length table ≡ total + length rest = length-append (tableOf kind oem entries) rest ∙ ap (λ (n : ℕ). n + length rest) table-length in
+      rw (length-is, size) (by-slice (total + length rest) total (omega arith) (omega arith) most ∙ le-ltb (total + length rest) total (omega arith))
+
+  laid : badEntries kind total ≡ false → checked table ≡ Passed (record { kind = kind; length = total })
+  laid even =
+      let same-kind : kindOf (signatureOf table) ≡ Is kind = ap (λ (n : ℕ). kindOf n) signature-is ∙ is in
+      let revision : wrongRevision kind (revisionOf table) ≡ false = rw (revision-is, eq-eqb (kind .revision) (kind .revision) refl) in
+      known table good kind same-kind
+      ∙ judged-passed kind table revision (ap (badEntries kind) length-is ∙ even) sums
+      ∙ ap (λ (n : ℕ). Passed (record { kind = kind; length = n })) length-is
+
+pub laid-passes : LaidPasses
+laid-passes kind oem entries rest is strings even most = laid kind oem entries rest is strings most even

@@ -1,0 +1,89 @@
+-- `sfi::search::is_hit` meets its contract: each test that fails is one that a hit meets.
+-- Assumes nothing.
+use Prim.Native.Nat.{ℕ}
+use mathlib.Core.Path.{_≡_, sym, ap, _∙_}
+use mathlib.Core.List.{List}
+use lib.ListN.{drop}
+use Rattle.sfi.specs.Checks.{signatureOf, lengthOf, checked}
+use Rattle.sfi.proofs.Searching.{other-signature, past-page, fails, hit}
+use borrow.Author.Needs.{needs}
+use Rattle.sfi.proofs.search.is_hit.Statement.{statement}
+use Rattle.sfi.proofs.search.is_hit.Tie as tie
+
+tail-requires : tie.Need-tail-requires
+tail-requires c κs = search needs
+
+u32-at-requires : tie.Need-u32-at-requires
+u32-at-requires c κs = search needs
+
+-- what was read of the table there
+abbrev start : tie.After-tail → tie.Start
+start c = c .before .before
+
+abbrev table : tie.After-tail → List ℕ
+table c = drop (start c .args .at) (start c .args .memory .now)
+
+signature : (c : tie.After-u32-at) → c .u32-at .result ≡ signatureOf (table (c .before))
+signature c = c .u32-at .ensures ∙ ap (λ (t : List ℕ). signatureOf t) (c .before .tail .ensures)
+
+total : (c : tie.After-length-of) → c .length-of .result ≡ lengthOf (table (c .before .before .before))
+total c = c .length-of .ensures ∙ ap (λ (t : List ℕ). lengthOf t) (c .before .before .before .tail .ensures)
+
+answer : (c : tie.After-check) → c .check .result ≡ checked (table (c .before .before .before .before .before))
+answer c = c .check .ensures ∙ ap checked (c .before .before .before .before .before .tail .ensures)
+
+returns : tie.Need-returns
+returns c =
+    let a = start (c .before .before) .args in
+    sym (other-signature (a .memory .now) (a .at) (λ e. c .if1 .taken (signature (c .before) ∙ e)))
+
+sub-if2 : tie.Need-sub-if2
+sub-if2 c = search needs
+
+length-of-requires : tie.Need-length-of-requires
+length-of-requires c κs = search needs
+
+returns-2 : tie.Need-returns-2
+returns-2 c =
+    let a = start (c .before .before .before .before) .args in
+    sym (past-page (a .memory .now) (a .at) (rw (← total (c .before)) (c .if2 .taken)))
+
+check-requires : tie.Need-check-requires
+check-requires c κs = search needs
+
+enum-told : tie.Need-enum-told
+enum-told c = search needs
+
+enum-told-2 : tie.Need-enum-told-2
+enum-told-2 c = search needs
+
+returns-3 : tie.Need-returns-3
+returns-3 c =
+    let at-page = c .before .before .before in
+    let at-signature = at-page .before .before in
+    let a = start (at-signature .before .before) .args in
+    sym
+    (hit (a .memory .now) (a .at) _ (sym (answer (c .before .before)) ∙ c .enum-told .given .1)
+    (sym (signature (at-signature .before)) ∙ at-signature .if1 .left)
+    (rw (← total (at-page .before)) (at-page .if2 .left)))
+
+returns-4 : tie.Need-returns-4
+returns-4 c =
+    let a = start (c .before .before .before .before .before .before .before) .args in
+    sym (fails (a .memory .now) (a .at) _ (sym (answer (c .before .before)) ∙ c .enum-told2 .given .1))
+
+pub is-hit-spec : {M : Type 1} → statement M
+is-hit-spec =
+    tie.close
+    (tie.spec
+    tail-requires
+    u32-at-requires
+    returns
+    sub-if2
+    length-of-requires
+    returns-2
+    check-requires
+    enum-told
+    enum-told-2
+    returns-3
+    returns-4)
