@@ -1,5 +1,5 @@
 /* Hoursquall: UBIOS message frames, their reassembly into messages, the notice ring,
- * UBIOS tables, and the checksums of UBIOS and SFI tables.
+ * UBIOS tables, SFI tables, and the checksums of both.
  *
  * Link target/staticlib/libhoursquall.a (x86-64, System V calling convention).
  *
@@ -31,6 +31,9 @@ enum {
     HS_ROOT_HEADER_SIZE = 40, /* with Count and six reserved bytes */
     HS_TABLE_MAX = 65536,     /* a table's Total Size */
     HS_NAME_MAX = 16,         /* a table's name */
+    HS_SFI_HEADER_SIZE = 24,
+    HS_SFI_MAX = 65536,          /* an SFI table's Length */
+    HS_SFI_MEMORY_SIZE = 131072, /* what SYST is sought in: 0xE0000 to 0xFFFFF */
 };
 
 /* Places of the words that hs_frame_parse hands out, in the frame's order. */
@@ -55,6 +58,21 @@ enum {
     HS_ROOT_NUMBERS = 3,
     HS_BODY_NUMBERS = 3,
     HS_SLOTS_MAX = 128,
+};
+
+/* Signatures of SFI tables, each the little-endian word of its four letters; and for
+ * each kind of table the size of an entry in bytes, and the Revision. */
+enum {
+    HS_SFI_SYST = 0x54535953, /* 8, Revision 1 */
+    HS_SFI_CPUS = 0x53555043, /* 4, Revision 1 */
+    HS_SFI_APIC = 0x43495041, /* 8, Revision 1 */
+    HS_SFI_MMAP = 0x50414D4D, /* 36, Revision 1 */
+    HS_SFI_FREQ = 0x51455246, /* 12, Revision 1 */
+    HS_SFI_MRTC = 0x4354524D, /* 12, Revision 1 */
+    HS_SFI_DEVS = 0x53564544, /* 25, Revision 1 */
+    HS_SFI_GPIO = 0x4F495047, /* 34, Revision 1 */
+    HS_SFI_MTMR = 0x524D544D, /* 16, Revision 2 */
+    HS_SFI_WAKE = 0x454B4157, /* 8, Revision 2; exactly one entry */
 };
 
 /* Answers. A refusal is the first in its function's list whose condition holds. */
@@ -101,6 +119,25 @@ enum {
     HS_REFUSED_NO_TABLE = 37,         /* no slot leads to a table of the name */
     HS_REFUSED_TWO_TABLES = 38,       /* two slots or more do */
     HS_REFUSED_BAD_NAME = 39,         /* the name sought is not legal */
+};
+
+/* Which table hs_sfi_choose chooses. Of other functions 1 and 2 are refusals. */
+enum {
+    HS_SFI_BOARD = 1,
+    HS_SFI_BUILT_IN = 2,
+};
+
+/* Refusals of SFI tables. */
+enum {
+    HS_REFUSED_SFI_LENGTH = 40,    /* table_len or Length is not legal */
+    HS_REFUSED_SFI_SUM = 41,       /* the table's Length bytes do not sum to 0 */
+    HS_REFUSED_SFI_SIGNATURE = 42, /* no kind of table has the signature */
+    HS_REFUSED_SFI_ENTRIES = 43,   /* Length does not go with the size of an entry */
+    HS_REFUSED_SFI_REVISION = 44,  /* Revision is not the kind's */
+    HS_REFUSED_NO_ENTRY = 45,      /* the table has no entry k */
+    HS_REFUSED_SFI_MEMORY = 46,    /* memory_len is not HS_SFI_MEMORY_SIZE */
+    HS_REFUSED_NO_SYST = 47,       /* SYST is nowhere in the memory */
+    HS_REFUSED_NEITHER = 48,       /* neither table passes with the signature */
 };
 
 /* The bytes added up modulo 2^8, the sum of SFI tables. Changes nothing. */
@@ -209,6 +246,50 @@ uint32_t hs_ubios_root(const uint8_t *region, size_t region_len, uint64_t base,
 uint32_t hs_ubios_find(const uint8_t *region, size_t region_len, uint64_t base,
                        uint64_t root, const uint8_t *name, size_t name_len,
                        size_t body[HS_BODY_NUMBERS]);
+
+/* Checks the SFI table at the start of table: a header of HS_SFI_HEADER_SIZE bytes and
+ * the entries, Length bytes together. Bytes behind Length don't count. HS_OK:
+ * *signature is the table's signature, one of HS_SFI_SYST to HS_SFI_WAKE, and *length
+ * is its Length, which is at most table_len.
+ *
+ * 40: table_len is under HS_SFI_HEADER_SIZE, or Length is under that, over HS_SFI_MAX
+ * or over table_len. 42: the signature is none of HS_SFI_SYST to HS_SFI_WAKE. 44:
+ * Revision is not the one listed there. 43: Length - HS_SFI_HEADER_SIZE is not a
+ * multiple of the size of an entry that is listed there, or the signature is
+ * HS_SFI_WAKE and Length is not 32. 41: hs_sum8 of the first Length bytes is not 0.
+ * Refusals 40, 42, 44, 43, 41: *signature and *length are unchanged. */
+uint32_t hs_sfi_check(const uint8_t *table, size_t table_len, uint32_t *signature,
+                      size_t *length);
+
+/* Finds the entry k, counted from 0 and of any value, of the SFI table at the start of
+ * table. HS_OK: *offset is where it starts in table, HS_SFI_HEADER_SIZE + k * the size
+ * of an entry, and all of the entry is inside Length.
+ *
+ * 40 to 44: what hs_sfi_check refuses. 45: the table has k entries or fewer. Refusals
+ * 40, 42, 44, 43, 41, 45: *offset is unchanged. */
+uint32_t hs_sfi_entry(const uint8_t *table, size_t table_len, size_t k,
+                      size_t *offset);
+
+/* Looks for SYST in memory, the bytes from the address 0xE0000 to 0xFFFFF. Every 16th
+ * byte is tried, lowest first. SYST is at a place if hs_sfi_check passes what memory
+ * has from there on, with HS_SFI_SYST, and the table's Length bytes lie in one page of
+ * 4096 bytes. HS_OK: *offset is the first such place in memory, so SYST has the address
+ * 0xE0000 + *offset.
+ *
+ * 46: memory_len is not HS_SFI_MEMORY_SIZE. 47: there is no such place. Refusals 46,
+ * 47: *offset is unchanged. */
+uint32_t hs_sfi_find_syst(const uint8_t *memory, size_t memory_len, size_t *offset);
+
+/* Chooses the table that the entries of a signature come from: board, if hs_sfi_check
+ * passes it with that signature, else built_in, if hs_sfi_check passes that one with
+ * it. Either may have the length 0. HS_SFI_BOARD: the chosen table is the first *length
+ * bytes of board. HS_SFI_BUILT_IN: it is the first *length bytes of built_in. *length
+ * is the chosen table's Length. HS_OK is never answered.
+ *
+ * 42: signature is none of HS_SFI_SYST to HS_SFI_WAKE. 48: neither table passes with
+ * it. Refusals 42, 48: *length is unchanged. */
+uint32_t hs_sfi_choose(uint32_t signature, const uint8_t *board, size_t board_len,
+                       const uint8_t *built_in, size_t built_in_len, size_t *length);
 
 #ifdef __cplusplus
 }

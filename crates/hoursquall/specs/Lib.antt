@@ -2,4 +2,5 @@
 pub mod Frame
 pub mod Notice
 pub mod Reassembly
+pub mod Sfi
 pub mod Ubios

@@ -10,10 +10,14 @@ ghost use Rattle.notice.specs.Ring as Ring;
 ghost use Rattle.ubios.specs.Layout.{tableHeader};
 ghost use Rattle.ubios.specs.Checks.{checked, rootChecked};
 ghost use Rattle.ubios.specs.Lookup.{found};
+ghost use Rattle.sfi.specs.Checks as SfiChecks;
+ghost use Rattle.sfi.specs.Search.{located};
+ghost use Rattle.sfi.specs.Choice.{chosen};
 ghost use Rattle.hoursquall.specs.Reassembly.{stateOf, blockOf, verdictNumber, wordsAfter};
 ghost use Rattle.hoursquall.specs.Frame.{parseNumber, headerAfter, countNumber, countAfter, writeNumber, lengthAfter, envelopeOf};
 ghost use Rattle.hoursquall.specs.Notice.{positionsOf, postNumber, positionsAfterPost, takeNumber, positionsAfterTake, idAfter, dataLengthAfter};
 ghost use Rattle.hoursquall.specs.Ubios.{tableNumber, partAfter, rootNumber, rootPartAfter, findNumber, bodyAfter};
+ghost use Rattle.hoursquall.specs.Sfi.{checkNumber, signatureAfter, tableLengthAfter, entryNumber, entryAfter, systNumber, systAfter, chooseNumber, chosenLengthAfter};
 
 mod state;
 
@@ -24,6 +28,8 @@ use notice::Positions;
 use notice::Posted;
 use notice::Taken;
 use reassembly::Verdict;
+use sfi::Entry;
+use sfi::choice::Chosen;
 use state::block_of;
 use state::state_of;
 use ubios::Checked;
@@ -264,6 +270,79 @@ pub extern "C" fn hs_ubios_find(
         Found::Only(only) => {
             *body = [only.slot, only.at, only.length];
             0
+        }
+    }
+}
+
+// Checks the SFI table at the start of `table`; `signature` and `extent` receive the signature of its kind and
+// its Length.
+#[no_mangle]
+pub extern "C" fn hs_sfi_check(table: &[u8], signature: &mut u32, extent: &mut usize) -> u32
+    ensures { λ r. ⌜ r ≡ checkNumber (SfiChecks.checked (now (table .entry))) ⌝ }
+    ensures { λ _. ⌜ now (signature .exit) ≡ signatureAfter (SfiChecks.checked (now (table .entry))) (now (signature .entry)) ⌝ }
+    ensures { λ _. ⌜ now (extent .exit) ≡ tableLengthAfter (SfiChecks.checked (now (table .entry))) (now (extent .entry)) ⌝ }
+{
+    match sfi::Table::check(table) {
+        sfi::Checked::Refused(reason) => reason.number(),
+        sfi::Checked::Passed(passed) => {
+            let kind = passed.kind;
+            *signature = kind.signature;
+            *extent = passed.length;
+            0
+        }
+    }
+}
+
+// Where entry k of an SFI table starts, counted from 0; `offset` receives it.
+#[no_mangle]
+pub extern "C" fn hs_sfi_entry(table: &[u8], k: usize, offset: &mut usize) -> u32
+    ensures { λ r. ⌜ r ≡ entryNumber (SfiChecks.entryOf (now (table .entry)) k) ⌝ }
+    ensures { λ _. ⌜ now (offset .exit) ≡ entryAfter (SfiChecks.entryOf (now (table .entry)) k) (now (offset .entry)) ⌝ }
+{
+    match sfi::Table::entry(table, k) {
+        Entry::Refused(reason) => reason.number(),
+        Entry::At(place) => {
+            *offset = place;
+            0
+        }
+    }
+}
+
+// Looks for SYST in the memory from 0xE0000 to 0xFFFFF; `offset` receives where it starts in it.
+#[no_mangle]
+pub extern "C" fn hs_sfi_find_syst(memory: &[u8], offset: &mut usize) -> u32
+    ensures { λ r. ⌜ r ≡ systNumber (located (now (memory .entry))) ⌝ }
+    ensures { λ _. ⌜ now (offset .exit) ≡ systAfter (located (now (memory .entry))) (now (offset .entry)) ⌝ }
+{
+    match sfi::search::find_syst(memory) {
+        sfi::search::Found::Refused(reason) => reason.number(),
+        sfi::search::Found::At(first) => {
+            *offset = first;
+            0
+        }
+    }
+}
+
+// Chooses between the board's SFI table and the built-in one; `extent` receives Length of the one chosen.
+#[no_mangle]
+pub extern "C" fn hs_sfi_choose(
+    signature: u32,
+    board: &[u8],
+    built_in: &[u8],
+    extent: &mut usize,
+) -> u32
+    ensures { λ r. ⌜ r ≡ chooseNumber (chosen signature (now (board .entry)) (now (built_in .entry))) ⌝ }
+    ensures { λ _. ⌜ now (extent .exit) ≡ chosenLengthAfter (chosen signature (now (board .entry)) (now (built_in .entry))) (now (board .entry)) (now (built_in .entry)) (now (extent .entry)) ⌝ }
+{
+    match sfi::choice::choose(signature, board, built_in) {
+        Chosen::Refused(reason) => reason.number(),
+        Chosen::Board => {
+            *extent = sfi::length_of(board);
+            1
+        }
+        Chosen::BuiltIn => {
+            *extent = sfi::length_of(built_in);
+            2
         }
     }
 }

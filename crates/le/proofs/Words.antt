@@ -1,6 +1,7 @@
 -- The laws of little-endian words, each once, for every width.
 --     word-places    a word is its bytes, each by the weight of its place
 --     word-append    a word within the first of two joined lists
+--     word-within    a word within the first bytes of a list
 --     word-one       a word of one byte is the byte
 --     byte-at        the same at a place of a list
 --     word-below     a word of k bytes is below 256 ^ k
@@ -11,12 +12,12 @@
 --     length-bytes   a number's k bytes are k bytes
 -- Assumes nothing.
 use Prim.Native.Nat.{ℕ, zero, suc, _+_, _*_, _/_, _%_, _^_, _≤_, _<_}
-use mathlib.Core.Path.{_≡_, refl, ap, ap₂}
+use mathlib.Core.Path.{_≡_, refl, sym, ap, ap₂, _∙_}
 use mathlib.Core.List.{List, [], _∷_, _++_, append-nil}
 use native.Mathlib.Nat.{mul-assoc, mul-comm, add-mul, add-zero}
 use native.Mathlib.Omega.{arith}
-use lib.ListN.{length, take, drop, getD}
-use lib.Seq.{getD-drop}
+use lib.ListN.{length, take, drop, getD, length-drop, take-append-drop}
+use lib.Seq.{getD-drop, length-take-le, drop-append-le}
 use Rattle.le.specs.Word.{word, bytes, AreBytes}
 
 pub word-nil : (k : ℕ) → word k [] ≡ 0
@@ -45,6 +46,14 @@ unfolding word
 word-append zero s t l = refl
 word-append (suc k) [] t l = absurd (omega arith)
 word-append (suc k) (b ∷ s) t l = rw (word-append k s t (omega arith))
+
+pub word-within : (k at n : ℕ) (s : List ℕ) → at + k ≤ n → n ≤ length s → word k (drop at (take n s)) ≡ word k (drop at s)
+word-within k at n s inside l =
+    let first = take n s in
+    let len : length first ≡ n = length-take-le n s l in
+    let room : k ≤ length (drop at first) = rw (length-drop at first) (omega arith) in
+    sym (word-append k (drop at first) (drop n s) room)
+    ∙ ap (word k) (sym (drop-append-le at first (drop n s) (omega arith)) ∙ ap (drop at) (take-append-drop n s))
 
 pub word-one : (s : List ℕ) → word 1 s ≡ getD s 0 0
 unfolding word

@@ -8,11 +8,11 @@ use borrow.Author.Tests.{ltb-true, ltb-false, eqb-true, eqb-false}
 use native.Mathlib.Numerals.{add-one}
 use native.Mathlib.Omega.{arith}
 use lib.Dec.{ltb, eqb}
-use lib.ListN.{length, take, drop, length-drop, take-append-drop}
-use lib.Seq.{length-take-le, drop-append-le, take-all}
+use lib.ListN.{length, take, drop}
+use lib.Seq.{length-take-le, take-all}
 use Rattle.le.specs.Word.{word}
 use Rattle.le.specs.Sum.{sum}
-use Rattle.le.proofs.Words.{word-append}
+use Rattle.le.proofs.Words.{word-within}
 use Rattle.le.proofs.Tests.{apart, never}
 use Rattle.sfi.specs.Kinds.{kindOf}
 use Rattle.sfi.specs.Checks.{headerSize, signatureOf, lengthOf, revisionOf, badLength, wrongRevision, badEntries, checked, entriesOf, entryAt, passesAs}
@@ -148,12 +148,7 @@ module _ (t : List ℕ) (table : Table) (passed : checked t ≡ Passed table) wh
 
   -- a word of the header is in them
   same-word : (k i : ℕ) → i + k ≤ headerSize → word k (drop i part) ≡ word k (drop i t)
-  same-word k i h =
-      let p = passing t table passed in
-      let long : length part ≡ lengthOf t = length-take-le (lengthOf t) t (p .sized .inside) in
-      let room : k ≤ length (drop i part) = rw (length-drop i part) (omega (arith, p .sized .least)) in
-      sym (word-append k (drop i part) (drop (lengthOf t) t) room)
-      ∙ ap (word k) (sym (drop-append-le i part (drop (lengthOf t) t) (omega (arith, p .sized .least))) ∙ ap (drop i) (take-append-drop (lengthOf t) t))
+  same-word k i h = let p = passing t table passed in word-within k i (lengthOf t) t (omega (arith, p .sized .least)) (p .sized .inside)
 
   part-length : length part ≡ lengthOf t
   part-length = length-take-le (lengthOf t) t (passing t table passed .sized .inside)

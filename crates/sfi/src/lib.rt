@@ -85,8 +85,8 @@ fn is_bad_length(size: usize, length: usize) -> bool
     size < length
 }
 
-// Length, as it stands in the table.
-fn length_of(table: &[u8]) -> usize
+// Length, as it stands in a table, with no check of it: a slice that is too short reads as if zeros followed.
+pub fn length_of(table: &[u8]) -> usize
     ensures { λ r. ⌜ r ≡ lengthOf (now (table .entry)) ⌝ }
 {
     le::word::u32_at(table, 4) as usize

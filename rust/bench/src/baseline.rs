@@ -5,6 +5,8 @@ const HEADER_SIZE: usize = 24;
 const NOTICE_HEADER_SIZE: usize = 8;
 const TABLE_HEADER_SIZE: usize = 32;
 const ROOT_HEADER_SIZE: usize = 40;
+const SFI_HEADER_SIZE: usize = 24;
+const PAGE: usize = 4096;
 
 #[inline(never)]
 pub fn sum8(bytes: &[u8]) -> u8 {
@@ -401,6 +403,72 @@ fn header_offset(region: &[u8], base: u64, address: u64, header_size: usize) -> 
         return Err(30);
     }
     Ok(offset)
+}
+
+#[inline(never)]
+pub fn sfi_check(table: &[u8], signature: &mut u32, length: &mut usize) -> u32 {
+    match sfi_table(table) {
+        Ok(table) => {
+            *signature = word_at(table, 0);
+            *length = table.len();
+            0
+        }
+        Err(refusal) => refusal,
+    }
+}
+
+#[inline(never)]
+pub fn find_syst(memory: &[u8], offset: &mut usize) -> u32 {
+    if memory.len() != 131_072 {
+        return 46;
+    }
+    // A hit stays inside its page, so no more than that is looked at.
+    for (page, bytes) in memory.chunks_exact(PAGE).enumerate() {
+        for place in (0..PAGE).step_by(16) {
+            let table = &bytes[place..];
+            if table.starts_with(b"SYST") && sfi_table(table).is_ok() {
+                *offset = PAGE * page + place;
+                return 0;
+            }
+        }
+    }
+    47
+}
+
+/// The bytes of a table that passes.
+#[inline(always)]
+fn sfi_table(slice: &[u8]) -> Result<&[u8], u32> {
+    if slice.len() < SFI_HEADER_SIZE {
+        return Err(40);
+    }
+    let length = word_at(slice, 4) as usize;
+    if length < SFI_HEADER_SIZE || length > 65_536.min(slice.len()) {
+        return Err(40);
+    }
+    let (entry_size, revision) = match &slice[..4] {
+        b"SYST" | b"APIC" => (8, 1),
+        b"CPUS" => (4, 1),
+        b"MMAP" => (36, 1),
+        b"FREQ" | b"MRTC" => (12, 1),
+        b"DEVS" => (25, 1),
+        b"GPIO" => (34, 1),
+        b"MTMR" => (16, 2),
+        b"WAKE" => (8, 2),
+        _ => return Err(42),
+    };
+    if slice[8] != revision {
+        return Err(44);
+    }
+    let entries = length - SFI_HEADER_SIZE;
+    let wake = slice.starts_with(b"WAKE");
+    if !entries.is_multiple_of(entry_size) || wake && entries != entry_size {
+        return Err(43);
+    }
+    let table = &slice[..length];
+    if sum8(table) != 0 {
+        return Err(41);
+    }
+    Ok(table)
 }
 
 fn word_at(bytes: &[u8], at: usize) -> u32 {

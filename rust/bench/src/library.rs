@@ -141,3 +141,16 @@ pub fn find(region: &[u8], base: u64, root: u64, name: &[u8], body: &mut [usize;
         )
     }
 }
+
+#[inline(always)]
+pub fn sfi_check(table: &[u8], signature: &mut u32, length: &mut usize) -> u32 {
+    // SAFETY: the pointer and `table.len()` are those of one slice; what is written is borrowed
+    // exclusively.
+    unsafe { raw::hs_sfi_check(table.as_ptr(), table.len(), signature, length) }
+}
+
+#[inline(always)]
+pub fn find_syst(memory: &[u8], offset: &mut usize) -> u32 {
+    // SAFETY: the pointer and the length are those of one slice; `offset` is borrowed exclusively.
+    unsafe { raw::hs_sfi_find_syst(memory.as_ptr(), memory.len(), offset) }
+}

@@ -23,6 +23,8 @@ const SLOTS: usize = 128;
 const ROOT: usize = 40 + 8 * SLOTS;
 const TABLE: usize = 256;
 
+const MEMORY: usize = 131_072;
+
 /// The functions as both sides have them.
 type Parse = fn(&[u8], u32, &mut [u32; 6]) -> u32;
 type Count = fn(usize, usize, &mut usize) -> u32;
@@ -32,6 +34,8 @@ type Post = fn(&mut [u8], &mut [usize; 2], u32, &[u8]) -> u32;
 type Take = fn(&[u8], &mut [usize; 2], &mut [u8], &mut u32, &mut usize) -> u32;
 type Table = fn(&[u8], u64, u64, &mut [usize; 2]) -> u32;
 type Find = fn(&[u8], u64, u64, &[u8], &mut [usize; 3]) -> u32;
+type SfiCheck = fn(&[u8], &mut u32, &mut usize) -> u32;
+type FindSyst = fn(&[u8], &mut usize) -> u32;
 
 fn main() {
     print_head();
@@ -47,6 +51,12 @@ fn main() {
     post_and_take("post and take, 1,024 B", NOTICE);
     table_check();
     find();
+    sfi_check();
+    find_syst("find SYST, 128 KiB, no hit", &pattern(MEMORY));
+    find_syst(
+        "find SYST, 128 KiB, 8,192 false signatures",
+        &false_signatures(),
+    );
 }
 
 fn sums() {
@@ -152,6 +162,37 @@ fn find() {
         || call_find(library::find, &region, &name),
         || call_find(baseline::find, &region, &name),
     );
+}
+
+fn sfi_check() {
+    let mut table = pattern(65_536);
+    table[..10].copy_from_slice(b"SYST\0\0\x01\0\x01\0");
+    table[9] = baseline::sum8(&table).wrapping_neg();
+    let syst = u32::from_le_bytes(*b"SYST");
+    let expected = (0, syst, 65_536);
+    assert_eq!(call_sfi_check(baseline::sfi_check, &table), expected);
+    print_row(
+        "sfi check, 64 KiB",
+        || call_sfi_check(library::sfi_check, &table),
+        || call_sfi_check(baseline::sfi_check, &table),
+    );
+}
+
+/// All of the memory is searched.
+fn find_syst(what: &str, memory: &[u8]) {
+    assert_eq!(call_find_syst(baseline::find_syst, memory), (47, 0));
+    print_row(
+        what,
+        || call_find_syst(library::find_syst, memory),
+        || call_find_syst(baseline::find_syst, memory),
+    );
+}
+
+/// At every 16th byte a SYST with one entry that is right in all but its sum. So each is summed,
+/// but for the last one of a page, which has no room there. Every table's last 16 bytes are the
+/// first of the next one.
+fn false_signatures() -> Vec<u8> {
+    b"SYST\x20\0\0\0\x01\0\0\0\0\0\0\0".repeat(MEMORY / 16)
 }
 
 /// What the posts and takes are lent, besides the data.
@@ -305,4 +346,18 @@ fn call_find(find: Find, region: &[u8], name: &[u8; 9]) -> (u32, [usize; 3]) {
     let (region, name) = (black_box(region), black_box(name));
     let answer = find(region, black_box(BASE), black_box(BASE), name, &mut body);
     (answer, body)
+}
+
+#[inline(always)]
+fn call_sfi_check(check: SfiCheck, table: &[u8]) -> (u32, u32, usize) {
+    let (mut signature, mut length) = (0, 0);
+    let answer = check(black_box(table), &mut signature, &mut length);
+    (answer, signature, length)
+}
+
+#[inline(always)]
+fn call_find_syst(find_syst: FindSyst, memory: &[u8]) -> (u32, usize) {
+    let mut offset = 0;
+    let answer = find_syst(black_box(memory), &mut offset);
+    (answer, offset)
 }

@@ -1,12 +1,16 @@
 //! What the differential tests share. Each test compares the library's answers, and every byte of
 //! the memory that it was lent, with the reference; seeds are fixed, so that a failure repeats.
 
+pub mod faults;
 pub mod frames;
 pub mod memory;
 pub mod notice;
 pub mod random;
 pub mod reassembly;
 pub mod scene;
+pub mod sfi;
+pub mod sfi_memory;
+pub mod sfi_tables;
 pub mod tables;
 pub mod ubios;
 

@@ -1,8 +1,9 @@
 //! Memory with a UBIOS root in it, and all that its slots may lead to.
 
+use crate::faults::Faults;
 use crate::random::Random;
 use crate::tables::{
-    address, name, put, put_word, root, seal, spoil, table, word, Faults, COUNT, REMAINING,
+    address, name, put, put_word, root, seal, spoil, table, word, COUNT, ORDER, REMAINING,
     ROOT_NAME,
 };
 use hoursquall::{NAME_MAX, ROOT_HEADER_SIZE, TABLE_HEADER_SIZE};
@@ -194,7 +195,8 @@ fn scene_table(random: &mut Random, names: &[Vec<u8>]) -> Vec<u8> {
     let mut table = table(random, name, &body, remaining);
     if random.within(0..=3) == 0 {
         // One of 32, 33 and 34, or several.
-        let faults = Faults(random.pick(&[4, 8, 16, 4, 8, 16, 12, 24, 20]));
+        let set = random.pick(&[4, 8, 16, 4, 8, 16, 12, 24, 20]);
+        let faults = Faults::new(&ORDER, set);
         spoil(random, &mut table, TABLE_HEADER_SIZE, faults);
     }
     table

@@ -1,5 +1,6 @@
 //! UBIOS tables and roots that pass, and the faults that they may have.
 
+use crate::faults::Faults;
 use crate::random::Random;
 use hoursquall::{NAME_MAX, ROOT_HEADER_SIZE, SLOTS_MAX, TABLE_HEADER_SIZE, TABLE_MAX};
 use reference::sum::sum32;
@@ -81,22 +82,6 @@ fn used(table: &[u8]) -> usize {
 
 /// The refusals of the root's check, in their order; those of a table's are the first five.
 pub const ORDER: [u32; 7] = [31, 30, 32, 33, 34, 35, 36];
-
-/// Refusals whose conditions hold, each a bit at its place in the order.
-#[derive(Clone, Copy, Debug)]
-pub struct Faults(pub usize);
-
-impl Faults {
-    pub fn has(self, refusal: u32) -> bool {
-        let place = ORDER.iter().position(|&listed| listed == refusal);
-        self.0 >> place.expect("it is in the order") & 1 == 1
-    }
-
-    /// The one that is given.
-    pub fn first(self) -> Option<u32> {
-        ORDER.into_iter().find(|&refusal| self.has(refusal))
-    }
-}
 
 /// Gives a passing table those faults that stand in its bytes. What follows the table in its
 /// region follows it here.

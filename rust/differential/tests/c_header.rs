@@ -1,5 +1,7 @@
 //! The C header declares what the raw module declares: a comparison of the two texts.
 
+use hoursquall::sfi;
+
 const RAW: &str = include_str!("../../hoursquall/src/raw.rs");
 const HEADER: &str = include_str!("../../../include/hoursquall.h");
 
@@ -66,7 +68,7 @@ fn is_function(word: &str) -> bool {
 }
 
 /// Sizes, places of the header's words, answers, and refusals by their numbers in document 01.
-const CONSTANTS: [(&str, usize); 59] = [
+const CONSTANTS: [(&str, usize); 73] = [
     ("HS_HEADER_SIZE", hoursquall::HEADER_SIZE),
     ("HS_FRAME_MAX", hoursquall::FRAME_MAX),
     ("HS_PIECE_MAX", hoursquall::PIECE_MAX),
@@ -80,6 +82,9 @@ const CONSTANTS: [(&str, usize); 59] = [
     ("HS_TABLE_MAX", hoursquall::TABLE_MAX),
     ("HS_SLOTS_MAX", hoursquall::SLOTS_MAX),
     ("HS_NAME_MAX", hoursquall::NAME_MAX),
+    ("HS_SFI_HEADER_SIZE", sfi::HEADER_SIZE),
+    ("HS_SFI_MAX", sfi::TABLE_MAX),
+    ("HS_SFI_MEMORY_SIZE", sfi::MEMORY_SIZE),
     ("HS_HEADER_INDEX", 0),
     ("HS_HEADER_ID", 1),
     ("HS_HEADER_SENDER", 2),
@@ -96,6 +101,8 @@ const CONSTANTS: [(&str, usize); 59] = [
     ("HS_OK", 0),
     ("HS_MORE", 0),
     ("HS_DELIVERED", 100),
+    ("HS_SFI_BOARD", 1),
+    ("HS_SFI_BUILT_IN", 2),
     ("HS_REFUSED_FRAME_SHORT", 1),
     ("HS_REFUSED_FRAME_LONG", 2),
     ("HS_REFUSED_WRONG_TYPE", 3),
@@ -126,6 +133,29 @@ const CONSTANTS: [(&str, usize); 59] = [
     ("HS_REFUSED_NO_TABLE", 37),
     ("HS_REFUSED_TWO_TABLES", 38),
     ("HS_REFUSED_BAD_NAME", 39),
+    ("HS_REFUSED_SFI_LENGTH", 40),
+    ("HS_REFUSED_SFI_SUM", 41),
+    ("HS_REFUSED_SFI_SIGNATURE", 42),
+    ("HS_REFUSED_SFI_ENTRIES", 43),
+    ("HS_REFUSED_SFI_REVISION", 44),
+    ("HS_REFUSED_NO_ENTRY", 45),
+    ("HS_REFUSED_SFI_MEMORY", 46),
+    ("HS_REFUSED_NO_SYST", 47),
+    ("HS_REFUSED_NEITHER", 48),
+];
+
+/// Signatures, each the little-endian word of its letters.
+const SIGNATURES: [(&str, u32); 10] = [
+    ("HS_SFI_SYST", sfi::SYST),
+    ("HS_SFI_CPUS", sfi::CPUS),
+    ("HS_SFI_APIC", sfi::APIC),
+    ("HS_SFI_MMAP", sfi::MMAP),
+    ("HS_SFI_FREQ", sfi::FREQ),
+    ("HS_SFI_MRTC", sfi::MRTC),
+    ("HS_SFI_DEVS", sfi::DEVS),
+    ("HS_SFI_GPIO", sfi::GPIO),
+    ("HS_SFI_MTMR", sfi::MTMR),
+    ("HS_SFI_WAKE", sfi::WAKE),
 ];
 
 #[test]
@@ -135,4 +165,21 @@ fn constants_agree() {
         let definition = format!(" {name} = {value},");
         assert!(header.contains(&definition), "missing: {definition}");
     }
+}
+
+#[test]
+fn signatures_agree() {
+    assert_eq!(sfi::SYST, 0x5453_5953);
+    let header = header();
+    for (name, signature) in SIGNATURES {
+        assert_eq!(signature.to_le_bytes(), name.as_bytes()[name.len() - 4..]);
+        assert_eq!(hexadecimal(&header, name), Some(signature), "{name}");
+    }
+}
+
+/// The value of a constant that the header defines in hexadecimal.
+fn hexadecimal(header: &str, name: &str) -> Option<u32> {
+    let (_, value) = header.split_once(&format!(" {name} = 0x"))?;
+    let end = value.find(|letter: char| !letter.is_ascii_hexdigit())?;
+    u32::from_str_radix(&value[..end], 16).ok()
 }

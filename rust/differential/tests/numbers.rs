@@ -1,10 +1,11 @@
-//! The specification's own numbers for frames, reassembly, notices, UBIOS tables and sums, on the
-//! library and on the reference.
+//! The specification's own numbers for frames, reassembly, notices, UBIOS and SFI tables and sums,
+//! on the library and on the reference.
 
 use differential::frames::{library_frames, reference_frames, Frames};
 use differential::notice;
 use differential::random::Random;
 use differential::reassembly::Machine;
+use differential::sfi;
 use differential::ubios::{self, Seen};
 use hoursquall::{Envelope, Verdict};
 use reference::notice::Positions;
@@ -15,6 +16,7 @@ struct Implementation {
     name: &'static str,
     count: fn(usize, usize) -> Result<usize, u32>,
     frames: fn(&Envelope, &[u8], usize) -> Frames,
+    sum8: fn(&[u8]) -> u8,
     sum32: fn(&[u8]) -> u32,
 }
 
@@ -23,12 +25,14 @@ const BOTH: [Implementation; 2] = [
         name: "library",
         count: hoursquall::count,
         frames: library_frames,
+        sum8: hoursquall::sum8,
         sum32: hoursquall::sum32,
     },
     Implementation {
         name: "reference",
         count: reference::frame::count,
         frames: reference_frames,
+        sum8: reference::sum::sum8,
         sum32: reference::sum::sum32,
     },
 ];
@@ -135,4 +139,69 @@ fn short_last_word() {
     for Implementation { name, sum32, .. } in BOTH {
         assert_eq!(sum32(&[0x01, 0x00, 0x00, 0x00, 0xFF]), 0x100, "{name}");
     }
+}
+
+/// An SFI table of this Length with the checksum that it needs, all else 0.
+fn sfi_table(signature: &[u8; 4], revision: u8, length: usize) -> Vec<u8> {
+    let mut table = vec![0; length];
+    table[..4].copy_from_slice(signature);
+    table[4..8].copy_from_slice(&(length as u32).to_le_bytes());
+    table[8] = revision;
+    table[9] = reference::sum::sum8(&table).wrapping_neg();
+    table
+}
+
+/// Length 28, Revision 1, the rest 0: the checksum that makes it pass, and no other does. This
+/// machine, and those below, compare the two implementations.
+#[test]
+fn cpus_of_one_entry() {
+    let mut table = sfi_table(b"CPUS", 1, 28);
+    table[9] = 0;
+    for Implementation { name, sum8, .. } in BOTH {
+        assert_eq!(sum8(&table).wrapping_neg(), 0xA8, "{name}");
+    }
+    let mut machine = sfi::Machine::new(&mut Random::new(73));
+    for checksum in 0..=255 {
+        table[9] = checksum;
+        let passing = machine.check(&table).map(|table| table.length);
+        let expected = if checksum == 0xA8 { Ok(28) } else { Err(41) };
+        assert_eq!(passing, expected, "{checksum:#x}");
+    }
+}
+
+#[test]
+fn syst_at_the_end_of_a_page() {
+    let mut machine = sfi::Machine::new(&mut Random::new(74));
+    for (length, found) in [(32, Ok(4064)), (40, Err(47))] {
+        let mut memory = vec![0; 0xF_FFFF - 0xE_0000 + 1];
+        memory[4064..4064 + length].copy_from_slice(&sfi_table(b"SYST", 1, length));
+        assert_eq!(machine.find_syst(&memory), found, "{length}");
+    }
+}
+
+/// The entry size and the revision of each kind: two entries, but for WAKE, and the second one's
+/// place.
+#[test]
+fn kinds_of_sfi_tables() {
+    let mut machine = sfi::Machine::new(&mut Random::new(75));
+    let first = [
+        (b"SYST", 8),
+        (b"CPUS", 4),
+        (b"APIC", 8),
+        (b"MMAP", 4 + 4 * 8),
+    ];
+    let rest = [(b"FREQ", 12), (b"MRTC", 12), (b"DEVS", 25), (b"GPIO", 34)];
+    let ones = first.into_iter().chain(rest).map(|kind| (kind, 1));
+    for ((signature, size), revision) in ones.chain([((b"MTMR", 16), 2)]) {
+        let table = sfi_table(signature, revision, 24 + 2 * size);
+        assert_eq!(machine.entry(&table, 0), Ok(24), "{signature:?}");
+        assert_eq!(machine.entry(&table, 1), Ok(24 + size), "{signature:?}");
+        assert_eq!(machine.entry(&table, 2), Err(45), "{signature:?}");
+        let other = sfi_table(signature, 3 - revision, 24 + 2 * size);
+        assert_eq!(machine.entry(&other, 0), Err(44), "{signature:?}");
+    }
+    assert_eq!(machine.entry(&sfi_table(b"WAKE", 2, 32), 0), Ok(24));
+    assert_eq!(machine.entry(&sfi_table(b"WAKE", 2, 32), 1), Err(45));
+    assert_eq!(machine.entry(&sfi_table(b"WAKE", 1, 32), 0), Err(44));
+    assert_eq!(machine.entry(&sfi_table(b"WAKE", 2, 40), 0), Err(43));
 }

@@ -1,9 +1,10 @@
 //! The checks of UBIOS tables and roots, and the look-up by name, against the reference.
 
+use differential::faults::Faults;
 use differential::random::Random;
 use differential::scene::{Extent, Scene};
 use differential::tables::{
-    self, name_field, put, put_word, seal, word, Faults, Lone, COUNT, REMAINING, ROOT_NAME, TOTAL,
+    self, name_field, put, put_word, seal, word, Lone, COUNT, ORDER, REMAINING, ROOT_NAME, TOTAL,
     VERSION,
 };
 use differential::ubios::{Machine, Seen};
@@ -69,7 +70,7 @@ fn faults_of_tables() {
     let mut random = Random::new(90);
     let mut seen = Seen::new();
     for case in 0..cases(96_000) {
-        let faults = Faults(case % 32);
+        let faults = Faults::new(&ORDER, case % 32);
         let table = any_table(&mut random);
         let lone = Lone::new(&mut random, &table, TABLE_HEADER_SIZE, faults);
         let mut machine = Machine::new(&mut random, &lone.bytes, lone.base, &mut seen);
@@ -85,7 +86,7 @@ fn faults_of_roots() {
     let mut random = Random::new(91);
     let mut seen = Seen::new();
     for case in 0..cases(96_000) {
-        let faults = Faults(case % 128);
+        let faults = Faults::new(&ORDER, case % 128);
         let root = any_root(&mut random);
         let lone = Lone::new(&mut random, &root, ROOT_HEADER_SIZE, faults);
         let mut machine = Machine::new(&mut random, &lone.bytes, lone.base, &mut seen);
@@ -332,7 +333,7 @@ fn failing_tables_count_as_none() {
     let mut random = Random::new(105);
     let mut seen = Seen::new();
     for case in 0..cases(7_000) {
-        let faults = Faults(4 * (1 + case % 7));
+        let faults = Faults::new(&ORDER, 4 * (1 + case % 7));
         let table = tables::table(&mut random, b"name", b"its body", 1);
         let mut scene = Scene::laid(&mut random, BASE, 2, &[&table, &table]);
         let (passing, failing) = (scene.tables[0], scene.tables[1]);

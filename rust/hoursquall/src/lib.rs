@@ -1,5 +1,5 @@
-//! Message frames, their reassembly, the notice ring, UBIOS tables and table sums: safe wrappers
-//! over the proved static library.
+//! Message frames, their reassembly, the notice ring, UBIOS tables, SFI tables and table sums: safe
+//! wrappers over the proved static library.
 //!
 //! ```
 //! use hoursquall::{count, data, parse, write, Envelope, FRAME_MAX};
@@ -21,6 +21,7 @@
 mod notice;
 pub mod raw;
 mod reassembly;
+pub mod sfi;
 mod ubios;
 
 pub use notice::{Notice, Positions};

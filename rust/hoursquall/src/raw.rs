@@ -1,5 +1,5 @@
 //! The C functions as `include/hoursquall.h` declares them. That header says what each answers
-//! and what a caller owes; the functions of the crate's root owe it for you.
+//! and what a caller owes; the crate's other functions owe it for you.
 
 extern "C" {
     pub fn hs_sum8(s: *const u8, s_len: usize) -> u8;
@@ -82,5 +82,25 @@ extern "C" {
         name: *const u8,
         name_len: usize,
         body: *mut [usize; 3],
+    ) -> u32;
+
+    pub fn hs_sfi_check(
+        table: *const u8,
+        table_len: usize,
+        signature: *mut u32,
+        length: *mut usize,
+    ) -> u32;
+
+    pub fn hs_sfi_entry(table: *const u8, table_len: usize, k: usize, offset: *mut usize) -> u32;
+
+    pub fn hs_sfi_find_syst(memory: *const u8, memory_len: usize, offset: *mut usize) -> u32;
+
+    pub fn hs_sfi_choose(
+        signature: u32,
+        board: *const u8,
+        board_len: usize,
+        built_in: *const u8,
+        built_in_len: usize,
+        length: *mut usize,
     ) -> u32;
 }

@@ -6,5 +6,6 @@
 pub mod frame;
 pub mod notice;
 pub mod reassembly;
+pub mod sfi;
 pub mod sum;
 pub mod ubios;

@@ -1,27 +1,17 @@
 -- `notice::read_head` meets its contract: eight bytes are read round the ring, and two words of them.
 -- Assumes nothing.
-use Prim.Native.Nat.{ℕ, _+_, _≤_}
-use mathlib.Core.Path.{_≡_, ap, sym, _∙_}
+use Prim.Native.Nat.{ℕ, _≤_}
+use mathlib.Core.Path.{ap, _∙_}
 use mathlib.Core.List.{List}
 use native.Mathlib.Omega.{arith}
-use lib.ListN.{length, take, drop, length-take, length-drop, take-append-drop}
-use lib.Seq.{drop-append-le}
+use lib.ListN.{length, drop}
 use Rattle.le.specs.Word.{word}
-use Rattle.le.proofs.Words.{word-append}
+use Rattle.le.proofs.Words.{word-within}
 use Rattle.notice.specs.Ring.{headerSize, turned}
 use Rattle.notice.proofs.Turning.{length-turned}
 use borrow.Author.Needs.{needs}
 use Rattle.notice.proofs.read_head.Statement.{statement}
 use Rattle.notice.proofs.read_head.Tie as tie
-
--- a word that ends before n is that of the first n bytes
-word-within : (k at n : ℕ) (s : List ℕ) → at + k ≤ n → n ≤ length s → word k (drop at (take n s)) ≡ word k (drop at s)
-word-within k at n s inside l =
-    let first = take n s in
-    let len : length first ≡ n = simp length-take (omega arith) in
-    let room : k ≤ length (drop at first) = rw (length-drop at first) (omega arith) in
-    sym (word-append k (drop at first) (drop n s) room)
-    ∙ ap (word k) (sym (drop-append-le at first (drop n s) (omega arith)) ∙ ap (drop at) (take-append-drop n s))
 
 slice-aggregate-get-round : tie.Need-slice-aggregate-get-round
 slice-aggregate-get-round c = search needs
