@@ -60,8 +60,8 @@ enum {
     HS_SLOTS_MAX = 128,
 };
 
-/* Signatures of SFI tables, each the little-endian word of its four letters; and for
- * each kind of table the size of an entry in bytes, and the Revision. */
+/* Signatures of SFI tables, each the little-endian word of its four letters. Beside each
+ * stand the size of an entry in bytes, and the Revision. */
 enum {
     HS_SFI_SYST = 0x54535953, /* 8, Revision 1 */
     HS_SFI_CPUS = 0x53555043, /* 4, Revision 1 */
@@ -121,10 +121,10 @@ enum {
     HS_REFUSED_BAD_NAME = 39,         /* the name sought is not legal */
 };
 
-/* Which table hs_sfi_choose chooses. Of other functions 1 and 2 are refusals. */
+/* Which table hs_sfi_choose chooses. */
 enum {
-    HS_SFI_BOARD = 1,
-    HS_SFI_BUILT_IN = 2,
+    HS_SFI_BOARD = 101,
+    HS_SFI_BUILT_IN = 102,
 };
 
 /* Refusals of SFI tables. */
@@ -132,7 +132,7 @@ enum {
     HS_REFUSED_SFI_LENGTH = 40,    /* table_len or Length is not legal */
     HS_REFUSED_SFI_SUM = 41,       /* the table's Length bytes do not sum to 0 */
     HS_REFUSED_SFI_SIGNATURE = 42, /* no kind of table has the signature */
-    HS_REFUSED_SFI_ENTRIES = 43,   /* Length does not go with the size of an entry */
+    HS_REFUSED_SFI_ENTRIES = 43,   /* Length is not that of whole entries; of one for WAKE */
     HS_REFUSED_SFI_REVISION = 44,  /* Revision is not the kind's */
     HS_REFUSED_NO_ENTRY = 45,      /* the table has no entry k */
     HS_REFUSED_SFI_MEMORY = 46,    /* memory_len is not HS_SFI_MEMORY_SIZE */

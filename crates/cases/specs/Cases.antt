@@ -131,7 +131,7 @@ two = record { id = 0x0A0B0C0D; body = 0xEE ∷ 0xFF ∷ [] }
 
 -- the head of a root with Total 40 and Version 1, all else 0
 pub rootHead : List ℕ
-rootHead = headOf (rootName ++ replicate 6 0) 40 0
+rootHead = headOf (rootName ++ replicate 6 0) 40 (replicate 3 0) 0
 
 -- the head of CPUS with Length 28 and Revision 1
 pub cpusHead : List ℕ

@@ -6,7 +6,7 @@ use lib.ListN.{length}
 use Rattle.sfi.specs.declared.Checked.{Checked}
 use Rattle.sfi.specs.declared.Checked.the-variants.{Passed, Refused as Failed}
 use Rattle.sfi.specs.declared.Entry.{Entry}
-use Rattle.sfi.specs.declared.Entry.the-variants.{At as EntryAt, Refused as NoEntry}
+use Rattle.sfi.specs.declared.Entry.the-variants.{At as EntryAt, Refused as NotThere}
 use Rattle.sfi.specs.declared.search.Found.{Found}
 use Rattle.sfi.specs.declared.search.Found.the-variants.{At as SystAt, Refused as NotFound}
 use Rattle.sfi.specs.declared.choice.Chosen.{Chosen}
@@ -29,12 +29,12 @@ tableLengthAfter (Failed reason) before = before
 
 abbrev pub entryNumber : Entry → ℕ
 entryNumber (EntryAt place) = 0
-entryNumber (NoEntry reason) = Checks.numberOf reason
+entryNumber (NotThere reason) = Checks.numberOf reason
 
 -- where the entry starts in the table
 abbrev pub entryAfter : Entry → ℕ → ℕ
 entryAfter (EntryAt place) before = place
-entryAfter (NoEntry reason) before = before
+entryAfter (NotThere reason) before = before
 
 abbrev pub systNumber : Found → ℕ
 systNumber (SystAt place) = 0
@@ -46,8 +46,8 @@ systAfter (SystAt place) before = place
 systAfter (NotFound reason) before = before
 
 abbrev pub chooseNumber : Chosen → ℕ
-chooseNumber Board = 1
-chooseNumber BuiltIn = 2
+chooseNumber Board = 101
+chooseNumber BuiltIn = 102
 chooseNumber (NotChosen reason) = Checks.numberOf reason
 
 -- Length of the table that is chosen, and so the length of the part (`part-passes` in `crates/sfi/proofs/Theorems.antt`)

@@ -1,6 +1,6 @@
 // The static library: what C and Rust link. Each function passes numbers and byte slices to the crate
-// that does the work. Where that can refuse, the answer is 0 or the refusal's number, and results go to
-// what the caller lends.
+// that does the work. Where that can refuse, the answer is 0 or the refusal's number (or, of a message
+// delivered and of a table chosen, a number above 100), and results go to what the caller lends.
 ghost use mathlib.Core.Path.{_≡_};
 ghost use Rattle.le.specs.Sum.{sum};
 ghost use Rattle.frame.specs.Reading.{parsed};
@@ -210,7 +210,7 @@ pub extern "C" fn hs_notice_take(
     }
 }
 
-// Checks the UBIOS table at an address of the memory that starts with `region` at `base`; `part` receives the
+// Checks the UBIOS table at an address of memory, which is `region` from the address `base` on; `part` receives the
 // place and the length of its used part.
 #[no_mangle]
 pub extern "C" fn hs_ubios_table(
@@ -323,7 +323,8 @@ pub extern "C" fn hs_sfi_find_syst(memory: &[u8], offset: &mut usize) -> u32
     }
 }
 
-// Chooses between the board's SFI table and the built-in one; `extent` receives Length of the one chosen.
+// Chooses between the board's SFI table (101) and the built-in one (102); `extent` receives Length of the one
+// chosen.
 #[no_mangle]
 pub extern "C" fn hs_sfi_choose(
     signature: u32,
@@ -338,11 +339,11 @@ pub extern "C" fn hs_sfi_choose(
         Chosen::Refused(reason) => reason.number(),
         Chosen::Board => {
             *extent = sfi::length_of(board);
-            1
+            101
         }
         Chosen::BuiltIn => {
             *extent = sfi::length_of(built_in);
-            2
+            102
         }
     }
 }

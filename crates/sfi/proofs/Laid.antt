@@ -1,25 +1,28 @@
 -- `laid-passes`: a table of a listed kind that is laid out by the rules passes its checks.
 -- Assumes nothing.
-use Prim.Native.Nat.{ℕ, _+_, _≤_}
-use mathlib.Core.Bool.{false}
-use mathlib.Core.Path.{_≡_, refl, sym, ap, _∙_}
+use Prim.Native.Nat.{ℕ, _+_, _*_, _-_, _%_, _≤_}
+use mathlib.Core.Bool.{Bool, true, false, not}
+use mathlib.Core.Path.{_≡_, refl, sym, ap, ap₂, _∙_}
 use mathlib.Core.List.{List, _++_, append-assoc}
-use borrow.Author.Tests.{eq-eqb, le-ltb}
+use borrow.Author.Tests.{eq-eqb, le-ltb, eqb-true, eqb-false}
+use native.Mathlib.Nat.{mul-mod-left}
 use native.Mathlib.Omega.{arith}
+use lib.Dec.{eqb}
 use lib.ListN.{length, take, drop, length-append}
 use lib.Seq.{take-at, drop-at, drop-drop}
 use Rattle.le.specs.Word.{word, bytes}
 use Rattle.le.specs.Sum.{sum}
 use Rattle.le.proofs.Words.{word-bytes, length-bytes}
 use Rattle.le.proofs.Sums.{checksum}
-use Rattle.sfi.specs.Kinds.{kindOf}
+use Rattle.sfi.specs.Kinds.{wake, kindOf}
 use Rattle.sfi.specs.Checks.{headerSize, lengthMax, signatureOf, lengthOf, revisionOf, summedPart, badLength, wrongRevision, badEntries, checked}
 use Rattle.sfi.specs.Statements.{headOf, checksumOf, tableOf, LaidPasses}
 use Rattle.sfi.specs.declared.kind.Kind.{Kind}
 use Rattle.sfi.specs.declared.kind.Known.the-variants.{Is}
 use Rattle.sfi.specs.declared.Checked.the-variants.{Passed}
 use Rattle.sfi.proofs.Listing.{Listed, listed}
-use Rattle.sfi.proofs.Answers.{by-slice, judged-passed, known}
+use Rattle.sfi.proofs.Answers.{by-slice, not-wake, wake-length, judged-passed, known}
+use Rattle.sfi.proofs.Theorems.{kinds-known, same-kind}
 
 module _ (kind : Kind) (oem entries rest : List ℕ)
     (is : kindOf (kind .signature) ≡ Is kind)
@@ -86,5 +89,24 @@ module _ (kind : Kind) (oem entries rest : List ℕ)
       ∙ judged-passed kind table revision (ap (badEntries kind) length-is ∙ even) sums
       ∙ ap (λ (n : ℕ). Passed (record { kind = kind; length = n })) length-is
 
+-- whole entries, and one for WAKE, make a good Length
+whole-entries : (kind : Kind) (n total : ℕ) → kindOf (kind .signature) ≡ Is kind → total ≡ headerSize + n * kind .entry → (kind .signature ≡ wake .signature → n ≡ 1)
+    → badEntries kind total ≡ false
+whole-entries kind n total is long one = go (eqb (kind .signature) (wake .signature)) refl
+  where
+    even : (total - headerSize) % kind .entry ≡ 0
+    even =
+        let entries : total - headerSize ≡ n * kind .entry = omega arith in
+        ap (λ (k : ℕ). k % kind .entry) entries ∙ mul-mod-left n (kind .entry)
+
+    go : (t : Bool) → eqb (kind .signature) (wake .signature) ≡ t → badEntries kind total ≡ false
+    go true q =
+        let signed = eqb-true (kind .signature) (wake .signature) q in
+        let same : kind ≡ wake = same-kind (wake .signature) kind wake (ap (λ (k : ℕ). kindOf k) (sym signed) ∙ is) (kinds-known .9) in
+        let single : total ≡ 32 = long ∙ ap₂ (λ (k : ℕ) (x : Kind). headerSize + k * x .entry) (one signed) same in
+        wake-length kind total even signed ∙ ap not (eq-eqb total 32 single)
+    go false q = not-wake kind total even (eqb-false (kind .signature) (wake .signature) q)
+
 pub laid-passes : LaidPasses
-laid-passes kind oem entries rest is strings even most = laid kind oem entries rest is strings most even
+laid-passes kind n oem entries rest is strings whole one most =
+    laid kind oem entries rest is strings most (whole-entries kind n (headerSize + length entries) is (ap (λ (k : ℕ). headerSize + k) whole) one)

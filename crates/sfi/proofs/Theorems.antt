@@ -1,29 +1,31 @@
 -- The theorems of `specs/Statements.antt` on signatures, the search, entries and the choice.
 -- Assumes nothing.
-use Prim.Native.Nat.{ℕ, zero, suc, _+_, _*_, _-_, _≤_, _<_}
+use Prim.Native.Nat.{ℕ, zero, suc, _+_, _*_, _-_, _/_, _%_, _≤_, _<_}
 use mathlib.Core.Bool.{Bool, true, false}
 use mathlib.Core.Path.{_≡_, refl, sym, ap, subst, _∙_}
-use mathlib.Core.List.{List}
-use borrow.Author.Tests.{ltb-true, ltb-false, eqb-true, eqb-false}
+use mathlib.Core.List.{List, []}
+use borrow.Author.Tests.{ltb-true, ltb-false, leb-true, eqb-true, eqb-false}
+use native.Mathlib.Nat.{suc-mul, le-div-iff-mul-le}
 use native.Mathlib.Numerals.{add-one}
 use native.Mathlib.Omega.{arith}
 use lib.Dec.{ltb, eqb}
-use lib.ListN.{length, take, drop}
+use lib.ListN.{length, take, drop, drop-of-length-le}
 use lib.Seq.{length-take-le, take-all}
 use Rattle.le.specs.Word.{word}
 use Rattle.le.specs.Sum.{sum}
 use Rattle.le.proofs.Words.{word-within}
-use Rattle.le.proofs.Tests.{apart, never}
-use Rattle.sfi.specs.Kinds.{kindOf}
+use Rattle.le.proofs.Tests.{apart, never, both}
+use Rattle.sfi.specs.Kinds.{syst, among, kindOf}
 use Rattle.sfi.specs.Checks.{headerSize, signatureOf, lengthOf, revisionOf, badLength, wrongRevision, badEntries, checked, entriesOf, entryAt, passesAs}
-use Rattle.sfi.specs.Search.{memorySize, step, tries, isHit, places, firstHit, located}
-use Rattle.sfi.specs.Statements.{SignaturesSpell, FoundAt, FoundLowest, LowestFound, NoHit, NoneFound, Inside, EntryInside, Whole, PartPasses}
+use Rattle.sfi.specs.Search.{memorySize, step, tries, inPage, isHit, places, firstHit, located}
+use Rattle.sfi.specs.Statements.{SignaturesSpell, KindsKnown, Hit, HitIs, IsHit, FoundLowest, LowestFound, NoHit, NoneFound, Inside, EntryInside, EntryExactly, Chooses, Whole, PartPasses}
 use Rattle.sfi.specs.Choice.{between, asked, chosen, partOf}
+use Rattle.sfi.specs.declared.kind.Kind.{Kind}
 use Rattle.sfi.specs.declared.kind.Known.{Known}
 use Rattle.sfi.specs.declared.kind.Known.the-variants.{Is, Unknown}
 use Rattle.sfi.specs.declared.Table.{Table}
 use Rattle.sfi.specs.declared.Reason.{Reason}
-use Rattle.sfi.specs.declared.Reason.the-variants.{UnknownSignature, BadMemory, NoSyst}
+use Rattle.sfi.specs.declared.Reason.the-variants.{BadLength, UnknownSignature, BadMemory, NoSyst}
 use Rattle.sfi.specs.declared.Checked.{Checked}
 use Rattle.sfi.specs.declared.Checked.the-variants.{Passed, Refused as Failed}
 use Rattle.sfi.specs.declared.search.Found.{Found}
@@ -31,12 +33,59 @@ use Rattle.sfi.specs.declared.search.Found.the-variants.{At, Refused}
 use Rattle.sfi.specs.declared.choice.Chosen.{Chosen}
 use Rattle.sfi.specs.declared.choice.Chosen.the-variants.{Board, BuiltIn, Refused as NotChosen}
 use Rattle.sfi.proofs.Listing.{listed}
-use Rattle.sfi.proofs.Answers.{length-good, judged-passed, known, passing, entry-end, has-entry, no-entry, fails-as}
-use Rattle.sfi.proofs.Searching.{places-from, no-places, none-left, hit-here, further-on, bad-memory, searched, the-board, the-built-in, neither-one}
+use Rattle.sfi.proofs.Answers.{short-slice, length-good, judged-passed, bad-length, known, passing, passes-as, entry-end, has-entry, no-entry, fails-as}
+use Rattle.sfi.proofs.Searching.{fails, hit, places-from, no-places, none-left, hit-here, further-on, bad-memory, searched, the-board, the-built-in, neither-one}
 
 pub signatures-spell : SignaturesSpell
 unfolding word
 signatures-spell = (refl, refl, refl, refl, refl, refl, refl, refl, refl, refl)
+
+pub kinds-known : KindsKnown
+unfolding among
+kinds-known = (refl, refl, refl, refl, refl, refl, refl, refl, refl, refl)
+
+-- one kind has one signature
+pub same-kind : (signature : ℕ) (j k : Kind) → kindOf signature ≡ Is j → kindOf signature ≡ Is k → j ≡ k
+same-kind signature j k ej ek = cc
+
+-- a hit taken apart
+pub hit-is : HitIs
+unfolding isHit
+hit-is memory offset e = go (checked (drop offset memory)) refl
+  where
+    t : List ℕ
+    t = drop offset memory
+
+    p : (passesAs (syst .signature) (checked t) ≡ true) × (inPage offset (lengthOf t) ≡ true)
+    p = both (passesAs (syst .signature) (checked t)) (inPage offset (lengthOf t)) e
+
+    go : (c : Checked) → checked t ≡ c → Hit memory offset
+    go (Failed reason) q = never (sym (p .0) ∙ fails-as t reason (syst .signature) q)
+    go (Passed table) q =
+        let known = passing t table q in
+        let signed : signatureOf t ≡ syst .signature = eqb-true (signatureOf t) (syst .signature) (sym (passes-as t table (syst .signature) q) ∙ p .0) in
+        let page = leb-true (offset % 4096 + lengthOf t) 4096 (p .1) in
+        record {
+          table = table;
+          passes = q;
+          kind = same-kind (syst .signature) (table .kind) syst (ap (λ (n : ℕ). kindOf n) (sym signed) ∙ known .kind) (kinds-known .0);
+          page = omega (arith, known .length-is, known .sized .least, page);
+        }
+
+pub is-hit : IsHit
+is-hit memory offset h =
+    let t = drop offset memory in
+    let known = passing t (h .table) (h .passes) in
+    let signed : signatureOf t ≡ syst .signature =
+    listed (signatureOf t) (h .table .kind) (known .kind) .signed ∙ ap (λ (k : Kind). k .signature) (h .kind) in
+    hit memory offset (h .table) (h .passes) signed (omega (arith, known .length-is, known .sized .least, h .page))
+
+-- no hit lies behind the memory
+beyond : (memory : List ℕ) (o : ℕ) → length memory ≤ o → isHit memory o ≡ false
+beyond memory o h =
+    let none : drop o memory ≡ [] = drop-of-length-le memory {i = o} h in
+    let short : length (drop o memory) ≡ 0 = ap length none in
+    fails memory o BadLength (bad-length (drop o memory) (short-slice (length (drop o memory)) (lengthOf (drop o memory)) (omega arith)))
 
 -- the search from the i-th place on
 abbrev from : List ℕ → ℕ → Found
@@ -59,13 +108,6 @@ none-to memory (suc n) h none =
     ∙ over memory n h (none n (omega arith))
     ∙ ap (from memory) (add-one n)
 
-pub lowest-found : LowestFound
-lowest-found memory i size low =
-    searched memory size ∙ none-to memory i (omega (arith, low .below)) (low .none-before) ∙ at memory i (low .below) (low .hit)
-
-pub none-found : NoneFound
-none-found memory size none = searched memory size ∙ none-to memory tries (omega arith) none ∙ end memory tries (omega arith)
-
 -- no hit among the first n places, and one place more
 abbrev NoneTo : List ℕ → ℕ → Type 0
 NoneTo memory n = (j : ℕ) → j < n → isHit memory (step * j) ≡ false
@@ -78,6 +120,13 @@ one-more memory n none e j h = go (ltb j n) refl
     go false q = let here : j ≡ n = omega (arith, ltb-false j n q) in rw here e
 
 -- what the search from the i-th place on says
+record FoundAt (memory : List ℕ) (offset : ℕ) : Type 0 where
+  i : ℕ
+  place : offset ≡ step * i
+  below : i < tries
+  hit-there : isHit memory (step * i) ≡ true
+  none-before : NoneTo memory i
+
 found-from : (memory : List ℕ) (offset fuel i : ℕ) → tries ≤ i + fuel → NoneTo memory i → from memory i ≡ At offset → FoundAt memory offset
 found-from memory offset zero i enough none e = let z = sym (end memory i (omega arith)) ∙ e in apart (cc)
 found-from memory offset (suc fuel) i enough none e = by-end (ltb i tries) refl (found-from memory offset fuel (i + 1) (omega arith))
@@ -86,7 +135,7 @@ found-from memory offset (suc fuel) i enough none e = by-end (ltb i tries) refl 
     by-hit h true q later =
         let z = sym (at memory i h q) ∙ e in
         let here : offset ≡ step * i = cc in
-        record { i = i; place = here; lowest = record { below = h; hit = q; none-before = none } }
+        record { i = i; place = here; below = h; hit-there = q; none-before = none }
     by-hit h false q later = later (one-more memory i none q) (sym (over memory i h q) ∙ e)
 
     by-end : (t : Bool) → ltb i tries ≡ t → (NoneTo memory (i + 1) → from memory (i + 1) ≡ At offset → FoundAt memory offset) → FoundAt memory offset
@@ -110,19 +159,70 @@ module _ (memory : List ℕ) where
   no-place : NoneTo memory 0
   no-place j h = absurd (omega arith)
 
-  sized : (f : Found) → located memory ≡ f → (f ≡ Refused BadMemory → ⊥) → from memory 0 ≡ f
-  sized f e other = go (eqb (length memory) memorySize) refl
+  of-size : (f : Found) → located memory ≡ f → (f ≡ Refused BadMemory → ⊥) → length memory ≡ memorySize
+  of-size f e other = go (eqb (length memory) memorySize) refl
     where
-      go : (t : Bool) → eqb (length memory) memorySize ≡ t → from memory 0 ≡ f
-      go true q = sym (searched memory (eqb-true (length memory) memorySize q)) ∙ e
+      go : (t : Bool) → eqb (length memory) memorySize ≡ t → length memory ≡ memorySize
+      go true q = eqb-true (length memory) memorySize q
       go false q = absurd (other (sym e ∙ bad-memory memory (eqb-false (length memory) memorySize q)))
+
+  from-start : (f : Found) → located memory ≡ f → (f ≡ Refused BadMemory → ⊥) → from memory 0 ≡ f
+  from-start f e other = sym (searched memory (of-size f e other)) ∙ e
+
+  -- places that are told by their offset, and by their number
+  by-number : (n : ℕ) → ((o : ℕ) → o < step * n → o % 16 ≡ 0 → isHit memory o ≡ false) → NoneTo memory n
+  by-number n none j h = none (step * j) (omega arith) (omega arith)
+
+  by-offset : (n : ℕ) → NoneTo memory n → (o : ℕ) → o < step * n → o % 16 ≡ 0 → isHit memory o ≡ false
+  by-offset n none o h sixteenth =
+      let is : step * (o / 16) ≡ o = omega arith in
+      rw (← is) (none (o / 16) (omega arith))
 
 pub found-lowest : FoundLowest
 found-lowest memory offset e =
-    found-from memory offset tries 0 (omega arith) (no-place memory) (sized memory (At offset) e (λ z. apart (cc)))
+    let f = found-from memory offset tries 0 (omega arith) (no-place memory) (from-start memory (At offset) e (λ z. apart (cc))) in
+    record {
+      sixteenth = omega (arith, f .place);
+      hit = rw (f .place) (f .hit-there);
+      none-below = λ o h sixteenth. by-offset memory (f .i) (f .none-before) o (omega (arith, f .place)) sixteenth;
+    }
+
+pub lowest-found : LowestFound
+lowest-found memory offset size low = go (ltb offset 131072) refl
+  where
+    i : ℕ
+    i = offset / 16
+
+    place : step * i ≡ offset
+    place = omega (arith, low .sixteenth)
+
+    go : (t : Bool) → ltb offset 131072 ≡ t → located memory ≡ At offset
+    go true q =
+        let inside = ltb-true offset 131072 q in
+        searched memory size
+        ∙ none-to memory i (omega arith) (by-number memory i (λ o h s. low .none-below o (omega arith) s))
+        ∙ at memory i (omega arith) (rw place (low .hit))
+        ∙ ap At place
+    go false q = never (sym (low .hit) ∙ beyond memory offset (omega (arith, ltb-false offset 131072 q)))
 
 pub no-hit : NoHit
-no-hit memory e = none-from memory tries 0 (omega arith) (no-place memory) (sized memory (Refused NoSyst) e (λ z. apart (cc)))
+no-hit memory e o sixteenth = go (ltb o 131072) refl
+  where
+    size : length memory ≡ memorySize
+    size = of-size memory (Refused NoSyst) e (λ z. apart (cc))
+
+    none : NoneTo memory tries
+    none = none-from memory tries 0 (omega arith) (no-place memory) (from-start memory (Refused NoSyst) e (λ z. apart (cc)))
+
+    go : (t : Bool) → ltb o 131072 ≡ t → isHit memory o ≡ false
+    go true q = by-offset memory tries none o (omega (arith, ltb-true o 131072 q)) sixteenth
+    go false q = beyond memory o (omega (arith, size, ltb-false o 131072 q))
+
+pub none-found : NoneFound
+none-found memory size none =
+    searched memory size
+    ∙ none-to memory tries (omega arith) (by-number memory tries (λ o h s. none o s))
+    ∙ end memory tries (omega arith)
 
 pub entry-inside : EntryInside
 entry-inside t table k offset passes e = go (ltb k (entriesOf table)) refl
@@ -140,6 +240,21 @@ entry-inside t table k offset passes e = go (ltb k (entriesOf table)) refl
           in-slice = omega (arith, p .length-is, p .sized .inside);
         }
     go false q = let z = sym (no-entry t k table passes (ltb-false k (entriesOf table) q)) ∙ e in apart (cc)
+
+at-most : (a b : ℕ) → (a < b → ⊥) → b ≤ a
+at-most a b h = go (ltb a b) refl
+  where
+    go : (t : Bool) → ltb a b ≡ t → b ≤ a
+    go true q = absurd (h (ltb-true a b q))
+    go false q = ltb-false a b q
+
+pub entry-exactly : EntryExactly
+entry-exactly t table k passes =
+    let p = passing t table passes in
+    let some = listed (signatureOf t) (table .kind) (p .kind) .entries in (
+      λ h. has-entry t k table passes (le-div-iff-mul-le some .1 (rw suc-mul (omega (arith, p .length-is, p .sized .least)))),
+      λ h. no-entry t k table passes (at-most k (entriesOf table) (λ l. absurd (omega (arith, entry-end (table .length - headerSize) (table .kind .entry) k some l, p .length-is, p .sized .least)))),
+    )
 
 -- The first Length bytes of a table that passes are a table with the same answer.
 module _ (t : List ℕ) (table : Table) (passed : checked t ≡ Passed table) where
@@ -209,6 +324,14 @@ module _ (signature : ℕ) (board built-in : List ℕ) where
       go true qa b qb = let z = sym (the-board signature board built-in qa) ∙ two in apart (cc)
       go false qa true qb = qb
       go false qa false qb = let z = sym (neither-one signature board built-in qa qb) ∙ two in apart (cc)
+
+pub chooses : Chooses
+chooses signature kind board built-in known-kind =
+    let ask = ap (λ (m : Known). asked m signature board built-in) known-kind in (
+      λ b. ask ∙ the-board signature board built-in b,
+      λ b i. ask ∙ the-built-in signature board built-in b i,
+      λ b i. ask ∙ neither-one signature board built-in b i,
+    )
 
 pub part-passes : PartPasses
 part-passes signature board built-in = (

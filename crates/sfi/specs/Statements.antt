@@ -1,24 +1,24 @@
 -- What is proved of the tables, the search and the choice. The proofs are in `proofs/Theorems.antt`, that of `laid-passes` in `proofs/Laid.antt`, under the names given here.
 -- Assumes nothing.
-use Prim.Native.Nat.{ℕ, _+_, _*_, _-_, _%_, _≤_, _<_}
+use Prim.Native.Nat.{ℕ, _+_, _*_, _-_, _/_, _%_, _≤_, _<_}
 use mathlib.Core.Bool.{true, false}
 use mathlib.Core.Path.{_≡_}
 use mathlib.Core.List.{List, [], _∷_, _++_}
-use lib.ListN.{length}
+use lib.ListN.{length, drop}
 use Rattle.le.specs.Word.{word, bytes}
 use Rattle.le.specs.Sum.{sum}
 use Rattle.sfi.specs.Kinds.{syst, cpus, apic, mmap, freq, mrtc, devs, gpio, mtmr, wake, kindOf}
-use Rattle.sfi.specs.Checks.{headerSize, lengthMax, lengthOf, badEntries, checked, entryOf, passesAs}
-use Rattle.sfi.specs.Search.{memorySize, step, tries, isHit, located}
+use Rattle.sfi.specs.Checks.{headerSize, lengthMax, lengthOf, checked, entryOf, passesAs}
+use Rattle.sfi.specs.Search.{isHit, located}
 use Rattle.sfi.specs.Choice.{chosen, partOf}
 use Rattle.sfi.specs.declared.kind.Kind.{Kind}
 use Rattle.sfi.specs.declared.kind.Known.the-variants.{Is}
 use Rattle.sfi.specs.declared.Table.{Table}
 use Rattle.sfi.specs.declared.Checked.the-variants.{Passed}
-use Rattle.sfi.specs.declared.Entry.the-variants.{At as EntryAt}
-use Rattle.sfi.specs.declared.Reason.the-variants.{NoSyst}
+use Rattle.sfi.specs.declared.Entry.the-variants.{At as EntryAt, Refused as NotThere}
+use Rattle.sfi.specs.declared.Reason.the-variants.{NoEntry, NoSyst, Neither}
 use Rattle.sfi.specs.declared.search.Found.the-variants.{At, Refused}
-use Rattle.sfi.specs.declared.choice.Chosen.the-variants.{Board, BuiltIn}
+use Rattle.sfi.specs.declared.choice.Chosen.the-variants.{Board, BuiltIn, Refused as NotChosen}
 
 -- `signatures-spell`. The signatures are the words of their letters.
 abbrev pub SignaturesSpell : Type 0
@@ -34,30 +34,52 @@ SignaturesSpell =
     × (mtmr .signature ≡ word 4 (0x4D ∷ 0x54 ∷ 0x4D ∷ 0x52 ∷ []))
     × (wake .signature ≡ word 4 (0x57 ∷ 0x41 ∷ 0x4B ∷ 0x45 ∷ []))
 
--- the i-th place that is tried is the lowest hit
-pub record Lowest (memory : List ℕ) (i : ℕ) : Type 0 where
-  pub below : i < tries
-  pub hit : isHit memory (step * i) ≡ true
-  pub none-before : (j : ℕ) → j < i → isHit memory (step * j) ≡ false
+-- `kinds-known`. Each of them is the signature of its kind.
+abbrev pub KindsKnown : Type 0
+KindsKnown =
+    (kindOf (syst .signature) ≡ Is syst)
+    × (kindOf (cpus .signature) ≡ Is cpus)
+    × (kindOf (apic .signature) ≡ Is apic)
+    × (kindOf (mmap .signature) ≡ Is mmap)
+    × (kindOf (freq .signature) ≡ Is freq)
+    × (kindOf (mrtc .signature) ≡ Is mrtc)
+    × (kindOf (devs .signature) ≡ Is devs)
+    × (kindOf (gpio .signature) ≡ Is gpio)
+    × (kindOf (mtmr .signature) ≡ Is mtmr)
+    × (kindOf (wake .signature) ≡ Is wake)
 
-pub record FoundAt (memory : List ℕ) (offset : ℕ) : Type 0 where
-  pub i : ℕ
-  pub place : offset ≡ step * i
-  pub lowest : Lowest memory i
+-- `hit-is`, `is-hit`. A hit is SYST that passes, with its first and its last byte in the same page of 4,096 bytes.
+pub record Hit (memory : List ℕ) (offset : ℕ) : Type 0 where
+  pub table : Table
+  pub passes : checked (drop offset memory) ≡ Passed table
+  pub kind : table .kind ≡ syst
+  pub page : offset / 4096 ≡ (offset + table .length - 1) / 4096
 
--- `found-lowest`, `lowest-found`. What is found is the lowest hit, and the lowest hit is found.
+abbrev pub HitIs : Type 0
+HitIs = (memory : List ℕ) (offset : ℕ) → isHit memory offset ≡ true → Hit memory offset
+
+abbrev pub IsHit : Type 0
+IsHit = (memory : List ℕ) (offset : ℕ) → Hit memory offset → isHit memory offset ≡ true
+
+-- the lowest hit at a 16th byte
+pub record Lowest (memory : List ℕ) (offset : ℕ) : Type 0 where
+  pub sixteenth : offset % 16 ≡ 0
+  pub hit : isHit memory offset ≡ true
+  pub none-below : (o : ℕ) → o < offset → o % 16 ≡ 0 → isHit memory o ≡ false
+
+-- `found-lowest`, `lowest-found`. What is found is the first hit among the offsets 0, 16, 32 and on, and that is found.
 abbrev pub FoundLowest : Type 0
-FoundLowest = (memory : List ℕ) (offset : ℕ) → located memory ≡ At offset → FoundAt memory offset
+FoundLowest = (memory : List ℕ) (offset : ℕ) → located memory ≡ At offset → Lowest memory offset
 
 abbrev pub LowestFound : Type 0
-LowestFound = (memory : List ℕ) (i : ℕ) → length memory ≡ memorySize → Lowest memory i → located memory ≡ At (step * i)
+LowestFound = (memory : List ℕ) (offset : ℕ) → length memory ≡ 131072 → Lowest memory offset → located memory ≡ At offset
 
--- `no-hit`, `none-found`. 47 exactly if there is no hit.
+-- `no-hit`, `none-found`. 47 exactly if none of these offsets is a hit.
 abbrev pub NoHit : Type 0
-NoHit = (memory : List ℕ) → located memory ≡ Refused NoSyst → (i : ℕ) → i < tries → isHit memory (step * i) ≡ false
+NoHit = (memory : List ℕ) → located memory ≡ Refused NoSyst → (o : ℕ) → o % 16 ≡ 0 → isHit memory o ≡ false
 
 abbrev pub NoneFound : Type 0
-NoneFound = (memory : List ℕ) → length memory ≡ memorySize → ((i : ℕ) → i < tries → isHit memory (step * i) ≡ false) → located memory ≡ Refused NoSyst
+NoneFound = (memory : List ℕ) → length memory ≡ 131072 → ((o : ℕ) → o % 16 ≡ 0 → isHit memory o ≡ false) → located memory ≡ Refused NoSyst
 
 -- `entry-inside`. An entry that is answered stands where it should, and lies inside the table.
 pub record Inside (t : List ℕ) (table : Table) (k offset : ℕ) : Type 0 where
@@ -71,6 +93,23 @@ EntryInside =
     → checked t ≡ Passed table
     → entryOf t k ≡ EntryAt offset
     → Inside t table k offset
+
+-- `entry-exactly`. And an entry is answered exactly where its last byte is within Length.
+abbrev pub EntryExactly : Type 0
+EntryExactly =
+    (t : List ℕ) (table : Table) (k : ℕ)
+    → checked t ≡ Passed table
+    → (headerSize + (k * table .kind .entry + table .kind .entry) ≤ table .length → entryOf t k ≡ EntryAt (headerSize + k * table .kind .entry))
+    × (table .length < headerSize + (k * table .kind .entry + table .kind .entry) → entryOf t k ≡ NotThere NoEntry)
+
+-- `chooses`. Of a known signature the board's table is chosen if it passes with it, else the built-in one if that does, else there is none.
+abbrev pub Chooses : Type 0
+Chooses =
+    (signature : ℕ) (kind : Kind) (board built-in : List ℕ)
+    → kindOf signature ≡ Is kind
+    → (passesAs signature (checked board) ≡ true → chosen signature board built-in ≡ Board)
+    × (passesAs signature (checked board) ≡ false → passesAs signature (checked built-in) ≡ true → chosen signature board built-in ≡ BuiltIn)
+    × (passesAs signature (checked board) ≡ false → passesAs signature (checked built-in) ≡ false → chosen signature board built-in ≡ NotChosen Neither)
 
 -- `part-passes`. The part that is chosen is a table as a whole: it passes with the signature that was asked for, and its Length is its length.
 pub record Whole (signature : ℕ) (t part : List ℕ) : Type 0 where
@@ -97,12 +136,13 @@ tableOf kind oem entries =
     headOf kind (headerSize + length entries)
     ++ (bytes 1 (checksumOf (headOf kind (headerSize + length entries)) (oem ++ entries)) ++ (oem ++ entries))
 
--- `laid-passes`. Each table of a listed kind that is laid out by the rules passes, whatever stands behind it: any OEM strings, any entries.
+-- `laid-passes`. Each table of a listed kind that is laid out by the rules passes, whatever stands behind it: any OEM strings, any entries, one entry for WAKE.
 abbrev pub LaidPasses : Type 0
 LaidPasses =
-    (kind : Kind) (oem entries rest : List ℕ)
+    (kind : Kind) (n : ℕ) (oem entries rest : List ℕ)
     → kindOf (kind .signature) ≡ Is kind
     → length oem ≡ 14
-    → badEntries kind (headerSize + length entries) ≡ false
+    → length entries ≡ n * kind .entry
+    → (kind .signature ≡ wake .signature → n ≡ 1)
     → headerSize + length entries ≤ lengthMax
     → checked (tableOf kind oem entries ++ rest) ≡ Passed (record { kind = kind; length = headerSize + length entries })

@@ -50,7 +50,7 @@ pub fn choose(signature: u32, board: &[u8], built_in: &[u8]) -> Chosen
     }
 }
 
-// The table itself: the first Length bytes of the one chosen, or no bytes.
+// The table itself: the first Length bytes of the one chosen, or no bytes where `choose` refuses.
 pub fn part<'a>(signature: u32, board: &'a [u8], built_in: &'a [u8]) -> &'a [u8]
     ensures { λ r. ⌜ now r ≡ partOf (chosen signature (now (board .entry)) (now (built_in .entry))) (now (board .entry)) (now (built_in .entry)) ⌝ }
 {

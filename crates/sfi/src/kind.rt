@@ -2,9 +2,10 @@
 ghost use mathlib.Core.Path.{_≡_};
 ghost use Rattle.sfi.specs.Kinds as Kinds;
 
-// What a kind of table is told by, how long each of its entries is, and its revision.
+// A kind of table.
 pub struct Kind {
     pub signature: u32,
+    // The size of an entry.
     pub entry: usize,
     pub revision: u8,
 }
@@ -17,7 +18,7 @@ pub enum Known {
 impl Kind {
     pub const SYST: u32 = 0x5453_5953;
 
-    pub const SYST_ENTRY: usize = 8;
+    pub const SYST_ENTRY_SIZE: usize = 8;
 
     pub const SYST_REVISION: u8 = 1;
 
@@ -26,14 +27,14 @@ impl Kind {
     {
         Kind {
             signature: Self::SYST,
-            entry: Self::SYST_ENTRY,
+            entry: Self::SYST_ENTRY_SIZE,
             revision: Self::SYST_REVISION,
         }
     }
 
     pub const CPUS: u32 = 0x5355_5043;
 
-    pub const CPUS_ENTRY: usize = 4;
+    pub const CPUS_ENTRY_SIZE: usize = 4;
 
     pub const CPUS_REVISION: u8 = 1;
 
@@ -42,14 +43,14 @@ impl Kind {
     {
         Kind {
             signature: Self::CPUS,
-            entry: Self::CPUS_ENTRY,
+            entry: Self::CPUS_ENTRY_SIZE,
             revision: Self::CPUS_REVISION,
         }
     }
 
     pub const APIC: u32 = 0x4349_5041;
 
-    pub const APIC_ENTRY: usize = 8;
+    pub const APIC_ENTRY_SIZE: usize = 8;
 
     pub const APIC_REVISION: u8 = 1;
 
@@ -58,14 +59,14 @@ impl Kind {
     {
         Kind {
             signature: Self::APIC,
-            entry: Self::APIC_ENTRY,
+            entry: Self::APIC_ENTRY_SIZE,
             revision: Self::APIC_REVISION,
         }
     }
 
     pub const MMAP: u32 = 0x5041_4D4D;
 
-    pub const MMAP_ENTRY: usize = 36;
+    pub const MMAP_ENTRY_SIZE: usize = 36;
 
     pub const MMAP_REVISION: u8 = 1;
 
@@ -74,14 +75,14 @@ impl Kind {
     {
         Kind {
             signature: Self::MMAP,
-            entry: Self::MMAP_ENTRY,
+            entry: Self::MMAP_ENTRY_SIZE,
             revision: Self::MMAP_REVISION,
         }
     }
 
     pub const FREQ: u32 = 0x5145_5246;
 
-    pub const FREQ_ENTRY: usize = 12;
+    pub const FREQ_ENTRY_SIZE: usize = 12;
 
     pub const FREQ_REVISION: u8 = 1;
 
@@ -90,14 +91,14 @@ impl Kind {
     {
         Kind {
             signature: Self::FREQ,
-            entry: Self::FREQ_ENTRY,
+            entry: Self::FREQ_ENTRY_SIZE,
             revision: Self::FREQ_REVISION,
         }
     }
 
     pub const MRTC: u32 = 0x4354_524D;
 
-    pub const MRTC_ENTRY: usize = 12;
+    pub const MRTC_ENTRY_SIZE: usize = 12;
 
     pub const MRTC_REVISION: u8 = 1;
 
@@ -106,14 +107,14 @@ impl Kind {
     {
         Kind {
             signature: Self::MRTC,
-            entry: Self::MRTC_ENTRY,
+            entry: Self::MRTC_ENTRY_SIZE,
             revision: Self::MRTC_REVISION,
         }
     }
 
     pub const DEVS: u32 = 0x5356_4544;
 
-    pub const DEVS_ENTRY: usize = 25;
+    pub const DEVS_ENTRY_SIZE: usize = 25;
 
     pub const DEVS_REVISION: u8 = 1;
 
@@ -122,14 +123,14 @@ impl Kind {
     {
         Kind {
             signature: Self::DEVS,
-            entry: Self::DEVS_ENTRY,
+            entry: Self::DEVS_ENTRY_SIZE,
             revision: Self::DEVS_REVISION,
         }
     }
 
     pub const GPIO: u32 = 0x4F49_5047;
 
-    pub const GPIO_ENTRY: usize = 34;
+    pub const GPIO_ENTRY_SIZE: usize = 34;
 
     pub const GPIO_REVISION: u8 = 1;
 
@@ -138,14 +139,14 @@ impl Kind {
     {
         Kind {
             signature: Self::GPIO,
-            entry: Self::GPIO_ENTRY,
+            entry: Self::GPIO_ENTRY_SIZE,
             revision: Self::GPIO_REVISION,
         }
     }
 
     pub const MTMR: u32 = 0x524D_544D;
 
-    pub const MTMR_ENTRY: usize = 16;
+    pub const MTMR_ENTRY_SIZE: usize = 16;
 
     pub const MTMR_REVISION: u8 = 2;
 
@@ -154,14 +155,14 @@ impl Kind {
     {
         Kind {
             signature: Self::MTMR,
-            entry: Self::MTMR_ENTRY,
+            entry: Self::MTMR_ENTRY_SIZE,
             revision: Self::MTMR_REVISION,
         }
     }
 
     pub const WAKE: u32 = 0x454B_4157;
 
-    pub const WAKE_ENTRY: usize = 8;
+    pub const WAKE_ENTRY_SIZE: usize = 8;
 
     pub const WAKE_REVISION: u8 = 2;
 
@@ -170,7 +171,7 @@ impl Kind {
     {
         Kind {
             signature: Self::WAKE,
-            entry: Self::WAKE_ENTRY,
+            entry: Self::WAKE_ENTRY_SIZE,
             revision: Self::WAKE_REVISION,
         }
     }

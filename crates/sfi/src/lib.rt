@@ -25,7 +25,7 @@ pub enum Reason {
     WrongSum,
     // 42: no kind has that signature.
     UnknownSignature,
-    // 43: Length does not go with the entry size, or is not 32 for WAKE.
+    // 43: Length − 24 is not a multiple of the entry size, or Length is not 32 for WAKE.
     BadEntries,
     // 44: Revision is not the listed one.
     WrongRevision,
@@ -100,7 +100,7 @@ impl Kind {
         revision != self.revision
     }
 
-    // Whether a Length does not go with this kind's entries.
+    // Whether a Length is not that of whole entries of this kind, or of other than one for WAKE.
     fn has_bad_entries(self, length: usize) -> bool
         requires { ⌜ (0 < self .entry) × (headerSize ≤ length) ⌝ }
         ensures { λ r. ⌜ r ≡ badEntries self length ⌝ }

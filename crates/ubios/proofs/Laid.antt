@@ -1,9 +1,9 @@
 -- `laid-passes`: a table that is laid out by the rules passes its checks.
 -- Assumes nothing.
-use Prim.Native.Nat.{ℕ, _+_, _-_, _^_, _≤_, _<_}
+use Prim.Native.Nat.{ℕ, suc, _+_, _*_, _-_, _^_, _≤_, _<_}
 use mathlib.Core.Bool.{false}
-use mathlib.Core.Path.{_≡_, sym, ap, ap₂, _∙_}
-use mathlib.Core.List.{List, [], _∷_, _++_, append-assoc}
+use mathlib.Core.Path.{_≡_, refl, sym, ap, ap₂, _∙_}
+use mathlib.Core.List.{List, [], _∷_, _++_, append-nil, append-assoc}
 use native.Mathlib.Omega.{arith}
 use lib.ListN.{length, take, drop, length-append}
 use lib.Seq.{take-at, drop-at, drop-drop, drop-append-seam}
@@ -11,74 +11,78 @@ use Rattle.le.specs.Word.{word, bytes}
 use Rattle.le.specs.Sum.{sum}
 use Rattle.le.proofs.Words.{word-bytes, word-one, length-bytes}
 use Rattle.le.proofs.Sums.{checksum}
-use Rattle.ubios.specs.Layout.{tableHeader, totalMax, nameMax, version, totalOf, versionOf, remainingOf, usedOf, summedPart}
-use Rattle.ubios.specs.Checks.{badSize, judged}
-use Rattle.ubios.specs.Statements.{headOf, checksumOf, tableOf, LaidPasses}
+use Rattle.le.proofs.Comparing.{equal-same}
+use Rattle.ubios.specs.Layout.{tableHeader, rootHeader, countMax, nameMax, version, upToZero, nameOf, totalOf, versionOf, remainingOf, usedOf, summedPart, rootName, countOf, addresses, slotsOf}
+use Rattle.ubios.specs.Checks.{tableAt, badSize, judged, rootJudged}
+use Rattle.ubios.specs.Lookup.{badName}
+use Rattle.ubios.specs.Statements.{headOf, checksumOf, tableOf, Laid, LaidPasses, LaidName, slotBytes, Addresses, rootBody, RootLaid, LaidRoot}
+use Rattle.ubios.specs.declared.Table.{Table}
 use Rattle.ubios.specs.declared.Checked.the-variants.{Passed}
-use Rattle.ubios.proofs.Answers.{not-outside, good-size, judged-passed, is-inside}
+use Rattle.ubios.proofs.Answers.{not-outside, good-size, judged-passed, is-inside, root-judged, root-passed, good-count}
+use Rattle.ubios.proofs.Names.{ends, joined, whole as whole-name, root-name-good}
 
 -- the words of a table with these, whatever stands behind its head
-module _ (field : List ℕ) (total remaining : ℕ) (rest : List ℕ) (named : length field ≡ nameMax) where
+module _ (field : List ℕ) (total : ℕ) (reserved : List ℕ) (remaining : ℕ) (rest : List ℕ) (named : length field ≡ nameMax) (three : length reserved ≡ 3) where
   abbrev t : List ℕ
-  t = headOf field total remaining ++ rest
+  t = headOf field total reserved remaining ++ rest
 
-  behind-name : drop 16 t ≡ bytes 4 total ++ (version ∷ 0 ∷ 0 ∷ 0 ∷ (bytes 4 remaining ++ rest))
+  behind-name : drop 16 t ≡ bytes 4 total ++ ((version ∷ reserved) ++ (bytes 4 remaining ++ rest))
   behind-name =
-      ap (drop 16) (append-assoc field (bytes 4 total ++ (version ∷ 0 ∷ 0 ∷ 0 ∷ bytes 4 remaining)) rest)
-      ∙ drop-at field ((bytes 4 total ++ (version ∷ 0 ∷ 0 ∷ 0 ∷ bytes 4 remaining)) ++ rest) 16 named
-      ∙ append-assoc (bytes 4 total) (version ∷ 0 ∷ 0 ∷ 0 ∷ bytes 4 remaining) rest
+      ap (drop 16) (append-assoc field (bytes 4 total ++ ((version ∷ reserved) ++ bytes 4 remaining)) rest)
+      ∙ drop-at field ((bytes 4 total ++ ((version ∷ reserved) ++ bytes 4 remaining)) ++ rest) 16 named
+      ∙ append-assoc (bytes 4 total) ((version ∷ reserved) ++ bytes 4 remaining) rest
+      ∙ ap (λ (l : List ℕ). bytes 4 total ++ l) (append-assoc (version ∷ reserved) (bytes 4 remaining) rest)
 
-  behind-total : drop 20 t ≡ version ∷ 0 ∷ 0 ∷ 0 ∷ (bytes 4 remaining ++ rest)
+  behind-total : drop 20 t ≡ (version ∷ reserved) ++ (bytes 4 remaining ++ rest)
   behind-total =
       sym (drop-drop 4 16 t)
       ∙ ap (drop 4) behind-name
-      ∙ drop-at (bytes 4 total) (version ∷ 0 ∷ 0 ∷ 0 ∷ (bytes 4 remaining ++ rest)) 4 (length-bytes 4 total)
+      ∙ drop-at (bytes 4 total) ((version ∷ reserved) ++ (bytes 4 remaining ++ rest)) 4 (length-bytes 4 total)
 
   behind-version : drop 24 t ≡ bytes 4 remaining ++ rest
-  behind-version = sym (drop-drop 4 20 t) ∙ ap (drop 4) behind-total
+  behind-version = sym (drop-drop 4 20 t) ∙ ap (drop 4) behind-total ∙ drop-at (version ∷ reserved) (bytes 4 remaining ++ rest) 4 (ap suc three)
 
   total-is : total < 2 ^ 32 → totalOf t ≡ total
-  total-is h = ap (word 4) behind-name ∙ word-bytes 4 total (version ∷ 0 ∷ 0 ∷ 0 ∷ (bytes 4 remaining ++ rest)) h
+  total-is h = ap (word 4) behind-name ∙ word-bytes 4 total ((version ∷ reserved) ++ (bytes 4 remaining ++ rest)) h
 
   version-is : versionOf t ≡ version
-  version-is = ap (word 1) behind-total ∙ word-one (version ∷ 0 ∷ 0 ∷ 0 ∷ (bytes 4 remaining ++ rest))
+  version-is = ap (word 1) behind-total ∙ word-one ((version ∷ reserved) ++ (bytes 4 remaining ++ rest))
 
   remaining-is : remaining < 2 ^ 32 → remainingOf t ≡ remaining
   remaining-is h = ap (word 4) behind-version ∙ word-bytes 4 remaining rest h
 
-  head-length : length (headOf field total remaining) ≡ 28
+  head-length : length (headOf field total reserved remaining) ≡ 28
   head-length = simp (length-append, length-bytes) (omega arith)
 
 -- a table in memory: what stands before it, and what behind it
-module _ (header base : ℕ) (front field : List ℕ) (remaining : ℕ) (body rest : List ℕ)
-    (named : length field ≡ nameMax)
+module _ (header base : ℕ) (front field reserved : List ℕ) (remaining : ℕ) (body rest : List ℕ)
     (long : header ≤ tableHeader + length body)
-    (most : tableHeader + length body + remaining ≤ totalMax)
-    (left : remaining ≤ length rest) where
+    (laid : Laid base front field reserved remaining body rest) where
   abbrev total : ℕ
   total = tableHeader + length body + remaining
 
   abbrev head : List ℕ
-  head = headOf field total remaining
+  head = headOf field total reserved remaining
 
   -- what follows the head
   abbrev tail : List ℕ
   tail = bytes 4 (checksumOf head body) ++ body ++ rest
 
-  table-length : length (tableOf field remaining body) ≡ tableHeader + length body
-  table-length = simp (length-append, length-bytes) (omega arith)
-
   abbrev table : List ℕ
-  table = tableOf field remaining body ++ rest
+  table = tableOf field reserved remaining body ++ rest
+
+  table-length : length (tableOf field reserved remaining body) ≡ tableHeader + length body
+  table-length = let named = laid .named in let three = laid .three in simp (length-append, length-bytes) (omega arith)
 
   here : table ≡ head ++ tail
   here = append-assoc head (bytes 4 (checksumOf head body) ++ body) rest
 
   total-read : totalOf table ≡ total
-  total-read = ap (λ (s : List ℕ). totalOf s) here ∙ total-is field total remaining tail named (omega arith)
+  total-read = ap (λ (s : List ℕ). totalOf s) here ∙ total-is field total reserved remaining tail (laid .named) (laid .three) (omega (arith, laid .most))
 
   remaining-read : remainingOf table ≡ remaining
-  remaining-read = ap (λ (s : List ℕ). remainingOf s) here ∙ remaining-is field total remaining tail named (omega arith)
+  remaining-read =
+      ap (λ (s : List ℕ). remainingOf s) here ∙ remaining-is field total reserved remaining tail (laid .named) (laid .three) (omega (arith, laid .most))
 
   used-is : usedOf table ≡ tableHeader + length body
   used-is = rw (total-read, remaining-read) (omega arith)
@@ -86,30 +90,141 @@ module _ (header base : ℕ) (front field : List ℕ) (remaining : ℕ) (body re
   sums : sum 4 (summedPart table) ≡ 0
   sums =
       ap (λ (n : ℕ). sum 4 (take n table)) used-is
-      ∙ ap (sum 4) (take-at (tableOf field remaining body) rest (tableHeader + length body) table-length)
-      ∙ checksum 4 7 head body (omega arith) (head-length field total remaining [] named)
+      ∙ ap (sum 4) (take-at (tableOf field reserved remaining body) rest (tableHeader + length body) table-length)
+      ∙ checksum 4 7 head body (omega arith) (head-length field total reserved remaining [] (laid .named) (laid .three))
 
   whole : length table ≡ tableHeader + length body + length rest
-  whole = length-append (tableOf field remaining body) rest ∙ ap (λ (n : ℕ). n + length rest) table-length
+  whole = length-append (tableOf field reserved remaining body) rest ∙ ap (λ (n : ℕ). n + length rest) table-length
 
   good : badSize header (length table) (totalOf table) (remainingOf table) ≡ false
-  good = rw (whole, total-read, remaining-read) (good-size header _ total remaining (omega arith) most (omega arith) (omega arith))
+  good =
+      let left = laid .left in
+      rw (whole, total-read, remaining-read) (good-size header _ total remaining (omega arith) (laid .most) (omega arith) (omega arith))
 
   judged-here : judged header (length front) table ≡ Passed (record { at = length front; used = tableHeader + length body })
   judged-here =
-      judged-passed header (length front) table good (ap (λ (s : List ℕ). versionOf s) here ∙ version-is field total remaining tail named) sums
+      judged-passed header (length front) table good (ap (λ (s : List ℕ). versionOf s) here ∙ version-is field total reserved remaining tail (laid .named) (laid .three)) sums
       ∙ ap (λ (n : ℕ). Passed (record { at = length front; used = n })) used-is
 
   region-length : length (front ++ table) ≡ length front + (tableHeader + length body + length rest)
   region-length = length-append front table ∙ ap (λ (n : ℕ). length front + n) whole
 
+-- what stands at an address is what was laid there
+at-address : (base : ℕ) (front table : List ℕ) → tableAt base (front ++ table) (base + length front) ≡ table
+at-address base front table =
+    let place : base + length front - base ≡ length front = omega arith in
+    ap (λ (n : ℕ). drop n (front ++ table)) place ∙ drop-append-seam front table
+
 pub laid-passes : LaidPasses
-laid-passes header base front field remaining body rest named long most left aligned top =
-    let region = front ++ (tableOf field remaining body ++ rest) in
+laid-passes header base front field reserved remaining body rest long laid =
+    let table = tableOf field reserved remaining body ++ rest in
+    let region = front ++ table in
     let address = base + length front in
-    let size = region-length header base front field remaining body rest named long most left in
+    let size = region-length header base front field reserved remaining body rest long laid in
     let place : address - base ≡ length front = omega arith in
-    let inside = not-outside header base (length region) address top (omega arith) (omega arith) in
-    is-inside header base region address aligned inside
-    ∙ ap₂ (λ (n : ℕ) (s : List ℕ). judged header n s) place (ap (λ (n : ℕ). drop n region) place ∙ drop-append-seam front (tableOf field remaining body ++ rest))
-    ∙ judged-here header base front field remaining body rest named long most left
+    let inside = not-outside header base (length region) address (laid .top) (omega arith) (omega arith) in
+    is-inside header base region address (laid .aligned) inside
+    ∙ ap₂ (λ (n : ℕ) (s : List ℕ). judged header n s) place (at-address base front table)
+    ∙ judged-here header base front field reserved remaining body rest long laid
+
+-- the name in a field
+name-in : (name junk behind : List ℕ) → badName name ≡ false → length (name ++ (0 ∷ junk)) ≡ nameMax → nameOf ((name ++ (0 ∷ junk)) ++ behind) ≡ name
+name-in name junk behind good long =
+    ap upToZero (take-at (name ++ (0 ∷ junk)) behind nameMax long)
+    ∙ joined name (0 ∷ junk) (whole-name name good)
+    ∙ ap (λ (l : List ℕ). name ++ l) (ends 0 junk refl)
+    ∙ append-nil name
+
+pub laid-name : LaidName
+laid-name base front name junk behind good long =
+    ap (λ (t : List ℕ). nameOf t) (at-address base front ((name ++ (0 ∷ junk)) ++ behind)) ∙ name-in name junk behind good long
+
+-- addresses that were laid out are read back
+read-slots : (slots behind : List ℕ) → Addresses slots → addresses (length slots) (slotBytes slots ++ behind) ≡ slots
+unfolding addresses slotBytes
+read-slots [] behind h = refl
+read-slots (a ∷ slots) behind h =
+    let here : (bytes 8 a ++ slotBytes slots) ++ behind ≡ bytes 8 a ++ (slotBytes slots ++ behind) = append-assoc (bytes 8 a) (slotBytes slots) behind in
+    rw (here, word-bytes 8 a (slotBytes slots ++ behind) (h .0), drop-at (bytes 8 a) (slotBytes slots ++ behind) 8 (length-bytes 8 a), read-slots slots behind (h .1))
+
+slots-length : (slots : List ℕ) → length (slotBytes slots) ≡ 8 * length slots
+unfolding slotBytes
+slots-length [] = refl
+slots-length (a ∷ slots) =
+    let more = slots-length slots in
+    length-append (bytes 8 a) (slotBytes slots) ∙ ap₂ _+_ (length-bytes 8 a) more ∙ omega arith
+
+-- a root in memory
+module _ (base : ℕ) (front junk reserved : List ℕ) (remaining : ℕ) (six slots more rest : List ℕ)
+    (six-bytes : length six ≡ 6)
+    (few : length slots ≤ countMax)
+    (fit : Addresses slots)
+    (laid : Laid base front (rootName ++ (0 ∷ junk)) reserved remaining (rootBody six slots more) rest) where
+  abbrev field : List ℕ
+  field = rootName ++ (0 ∷ junk)
+
+  abbrev body : List ℕ
+  body = rootBody six slots more
+
+  abbrev first : List ℕ
+  first = headOf field (tableHeader + length body + remaining) reserved remaining
+
+  abbrev check : List ℕ
+  check = bytes 4 (checksumOf first body)
+
+  abbrev root : List ℕ
+  root = tableOf field reserved remaining body ++ rest
+
+  body-length : length body ≡ 8 + (8 * length slots + length more)
+  body-length =
+      let sized = slots-length slots in
+      simp (length-append, length-bytes) (omega arith)
+
+  root-fits : rootHeader ≤ tableHeader + length body
+  root-fits = let long = body-length in omega arith
+
+  named-root : nameOf root ≡ rootName
+  named-root =
+      ap (λ (t : List ℕ). nameOf t) (append-assoc first (check ++ body) rest ∙ append-assoc field _ ((check ++ body) ++ rest))
+      ∙ name-in rootName junk _ root-name-good (laid .named)
+
+  behind-head : drop tableHeader root ≡ body ++ rest
+  behind-head =
+      let long : length (first ++ check) ≡ tableHeader =
+      length-append first check ∙ ap₂ _+_ (head-length field _ reserved remaining [] (laid .named) (laid .three)) (length-bytes 4 (checksumOf first body)) in
+      ap (drop tableHeader) (append-assoc first (check ++ body) rest ∙ ap (λ (l : List ℕ). first ++ l) (append-assoc check body rest) ∙ sym (append-assoc first check (body ++ rest)))
+      ∙ drop-at (first ++ check) (body ++ rest) tableHeader long
+
+  count-read : length slots ≡ countOf root
+  count-read =
+      sym
+      (ap (word 2) (behind-head ∙ append-assoc (bytes 2 (length slots)) (six ++ (slotBytes slots ++ more)) rest)
+      ∙ word-bytes 2 (length slots) ((six ++ (slotBytes slots ++ more)) ++ rest) (omega arith))
+
+  behind-count : drop rootHeader root ≡ slotBytes slots ++ (more ++ rest)
+  behind-count =
+      let long : length (bytes 2 (length slots) ++ six) ≡ 8 = length-append (bytes 2 (length slots)) six ∙ ap₂ _+_ (length-bytes 2 (length slots)) six-bytes in
+      let parts : body ++ rest ≡ (bytes 2 (length slots) ++ six) ++ (slotBytes slots ++ (more ++ rest)) =
+      append-assoc (bytes 2 (length slots)) (six ++ (slotBytes slots ++ more)) rest
+      ∙ ap (λ (l : List ℕ). bytes 2 (length slots) ++ l) (append-assoc six (slotBytes slots ++ more) rest ∙ ap (λ (l : List ℕ). six ++ l) (append-assoc (slotBytes slots) more rest))
+      ∙ sym (append-assoc (bytes 2 (length slots)) six (slotBytes slots ++ (more ++ rest))) in
+      sym (drop-drop 8 tableHeader root) ∙ ap (drop 8) (behind-head ∙ parts) ∙ drop-at (bytes 2 (length slots) ++ six) (slotBytes slots ++ (more ++ rest)) 8 long
+
+  slots-read : slotsOf root ≡ slots
+  slots-read = ap₂ addresses (sym count-read) behind-count ∙ read-slots slots (more ++ rest) fit
+
+  root-laid : RootLaid base (front ++ root) (base + length front) (length front) (tableHeader + length body) slots
+  root-laid =
+      let table : Table = record { at = length front; used = tableHeader + length body } in
+      let long = body-length in
+      record {
+        passes =
+            root-judged base (front ++ root) (base + length front) table (laid-passes rootHeader base front field reserved remaining body rest root-fits laid)
+            ∙ ap (rootJudged table) (at-address base front root)
+            ∙ root-passed table root (equal-same (nameOf root) rootName named-root) (length slots) count-read (good-count (tableHeader + length body) (length slots) few (omega arith));
+        slots-are = ap (λ (t : List ℕ). slotsOf t) (at-address base front root) ∙ slots-read;
+      }
+
+pub laid-root : LaidRoot
+laid-root base front junk reserved remaining six slots more rest six-bytes few fit laid =
+    root-laid base front junk reserved remaining six slots more rest six-bytes few fit laid

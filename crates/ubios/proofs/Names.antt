@@ -17,7 +17,7 @@ use Rattle.le.proofs.Comparing.{same-true, equal-same, other-list, other-length
 use Rattle.ubios.specs.Layout.{nameMax, upToZero, nameOf, rootName}
 use Rattle.ubios.specs.Lookup.{badName}
 
-ends : (b : ℕ) (s : List ℕ) → b ≡ 0 → upToZero (b ∷ s) ≡ []
+pub ends : (b : ℕ) (s : List ℕ) → b ≡ 0 → upToZero (b ∷ s) ≡ []
 unfolding upToZero
 ends b s e = rw (eq-eqb b 0 e)
 
@@ -75,7 +75,7 @@ module _ (name : List ℕ) where
   by-zero ne h = rw (ne-eqb (length name) 0 ne, le-ltb nameMax (length name) h)
 
 -- a name that can be sought has no zero, and fits the field
-whole : (name : List ℕ) → badName name ≡ false → upToZero name ≡ name
+pub whole : (name : List ℕ) → badName name ≡ false → upToZero name ≡ name
 unfolding badName
 whole name e =
     let p = neither (eqb (length name) 0) _ e in
@@ -91,7 +91,7 @@ fits name e =
     ltb-false nameMax (length name) (q .0)
 
 -- what stands before the first zero of two joined lists, of which the first has none
-joined : (s t : List ℕ) → upToZero s ≡ s → upToZero (s ++ t) ≡ s ++ upToZero t
+pub joined : (s t : List ℕ) → upToZero s ≡ s → upToZero (s ++ t) ≡ s ++ upToZero t
 joined [] t e = refl
 joined (b ∷ s) t e = go (eqb b 0) refl (joined s t)
   where

@@ -11,11 +11,10 @@ use lib.ListN.{length, take, drop, length-drop, length-append}
 use lib.Seq.{take-nil, drop-drop}
 use Rattle.le.specs.Compare.{same}
 use Rattle.le.proofs.Tests.{apart}
-use Rattle.ubios.specs.Layout.{tableHeader, nameOf, usedOf, slotsOf}
-use Rattle.ubios.specs.Checks.{tableAt, checked, rootChecked}
+use Rattle.ubios.specs.Layout.{tableHeader, usedOf, slotsOf}
+use Rattle.ubios.specs.Checks.{tableAt, rootChecked}
 use Rattle.ubios.specs.Lookup.{badName, passes, leads, bodyOf, bodyAt, hits, answerOf, lookedUp, found}
-use Rattle.ubios.specs.Statements.{NoneLeads, OnlyOne, FoundOnly, OnlyFound, BehindGap, SameTables, movedOn, GapAdded, BodyInside, BodyBytes}
-use Rattle.ubios.specs.declared.Table.{Table}
+use Rattle.ubios.specs.Statements.{NoneLeads, FoundBy, FoundOnly, OnlyFound, BehindGap, SameTables, movedOn, GapAdded, BodyInside, BodyBytes}
 use Rattle.ubios.specs.declared.RootChecked.{RootChecked}
 use Rattle.ubios.specs.declared.RootChecked.the-variants.{Passed as RootPassed, Refused as RootRefused}
 use Rattle.ubios.specs.declared.lookup.Body.{Body}
@@ -109,8 +108,9 @@ module _ (base : ℕ) (region name : List ℕ) where
           }
 
 pub only-found : OnlyFound
-only-found base region root name r b good passed one =
-    in-root base region root name good r passed
+only-found base region root name b by =
+    let one = by .only in
+    in-root base region root name (by .sought) (by .root-table) (by .root-passes)
     ∙ ap (lookedUp base region name) (one .slots)
     ∙ one-of-all base region name (one .before) (one .address) (one .after) (one .none-before) (one .leads-there) (one .none-after)
     ∙ ap Only (sym (one .is))
@@ -124,24 +124,30 @@ one-answer (c ∷ d ∷ l) b e = apart (cc)
 pub found-only : FoundOnly
 found-only base region root name b e = by-name (badName name) refl
   where
-    by-root : badName name ≡ false → (c : RootChecked) → rootChecked base region root ≡ c → OnlyOne base region root name b
+    by-root : badName name ≡ false → (c : RootChecked) → rootChecked base region root ≡ c → FoundBy base region root name b
     by-root good (RootRefused reason) q = let z = sym (no-root base region root name good reason q) ∙ e in apart (cc)
     by-root good (RootPassed r) q =
         let slots = slotsOf (tableAt base region root) in
         let p = place base region name 0 slots b (one-answer (hits base region name 0 slots) b (sym (in-root base region root name good r q) ∙ e)) in
         let start : 0 + length (p .before) ≡ length (p .before) = omega arith in
         record {
-          before = p .before;
-          address = p .address;
-          after = p .after;
-          slots = p .all;
-          leads-there = p .leads-there;
-          none-before = p .none-before;
-          none-after = p .none-after;
-          is = p .is ∙ ap (λ (i : ℕ). bodyAt base region i (p .address)) start;
+          sought = good;
+          root-table = r;
+          root-passes = q;
+          only =
+              record {
+                before = p .before;
+                address = p .address;
+                after = p .after;
+                slots = p .all;
+                leads-there = p .leads-there;
+                none-before = p .none-before;
+                none-after = p .none-after;
+                is = p .is ∙ ap (λ (i : ℕ). bodyAt base region i (p .address)) start;
+              };
         }
 
-    by-name : (t : Bool) → badName name ≡ t → OnlyOne base region root name b
+    by-name : (t : Bool) → badName name ≡ t → FoundBy base region root name b
     by-name true q = let z = sym (bad-name base region root name q) ∙ e in apart (cc)
     by-name false q = by-root q (rootChecked base region root) refl
 
@@ -160,23 +166,8 @@ behind-gap base region root name r before between address after good passed slot
     ∙ one-of-all base region name front address after none h ha
     ∙ ap (λ (i : ℕ). Only (bodyAt base region i address)) (length-append before (0 ∷ between))
 
--- the same table in two regions leads there in both or in neither, to the same body
-module _ (base : ℕ) (region region′ name : List ℕ) (a : ℕ)
-    (check : checked tableHeader base region a ≡ checked tableHeader base region′ a)
-    (names : nameOf (tableAt base region a) ≡ nameOf (tableAt base region′ a)) where
-  same-leads : leads base region′ name a ≡ leads base region name a
-  unfolding leads
-  same-leads = rw (check, names)
-
-  same-body : (k : ℕ) → leads base region name a ≡ true → bodyAt base region′ k a ≡ bodyAt base region k a
-  same-body k q =
-      let l = led base region name a q in
-      let here = passing tableHeader base region a (l .table) (l .passes) .is in
-      let there = passing tableHeader base region′ a (l .table) (sym check ∙ l .passes) .is in
-      let used : usedOf (tableAt base region′ a) ≡ usedOf (tableAt base region a) = ap (λ (t : Table). t .used) (sym there ∙ here) in
-      ap (λ (n : ℕ). bodyOf k (record { at = a - base; used = n })) used
-
-same-hits : (base : ℕ) (region region′ name : List ℕ) (k : ℕ) (slots : List ℕ) → SameTables base region region′ slots
+-- the same tables give the same hits
+same-hits : (base : ℕ) (region region′ name : List ℕ) (k : ℕ) (slots : List ℕ) → SameTables base region region′ name slots
     → hits base region′ name k slots ≡ hits base region name k slots
 same-hits base region region′ name k [] h = no-slots base region′ name k ∙ sym (no-slots base region name k)
 same-hits base region region′ name k (a ∷ slots) h = go (leads base region name a) refl (same-hits base region region′ name (suc k) slots (h .2))
@@ -184,13 +175,11 @@ same-hits base region region′ name k (a ∷ slots) h = go (leads base region n
     go : (t : Bool) → leads base region name a ≡ t → hits base region′ name (suc k) slots ≡ hits base region name (suc k) slots
         → hits base region′ name k (a ∷ slots) ≡ hits base region name k (a ∷ slots)
     go true q rest =
-        meets base region′ name k a slots (same-leads base region region′ name a (h .0) (h .1) ∙ q)
-        ∙ ap₂ (λ (b : Body) (l : List Body). b ∷ l) (same-body base region region′ name a (h .0) (h .1) k q) rest
+        let body : bodyAt base region′ k a ≡ bodyAt base region k a = ap (λ (n : ℕ). bodyOf k (record { at = a - base; used = n })) (h .1 q) in
+        meets base region′ name k a slots (h .0 ∙ q)
+        ∙ ap₂ (λ (b : Body) (l : List Body). b ∷ l) body rest
         ∙ sym (meets base region name k a slots q)
-    go false q rest =
-        passes-over base region′ name k a slots (same-leads base region region′ name a (h .0) (h .1) ∙ q)
-        ∙ rest
-        ∙ sym (passes-over base region name k a slots q)
+    go false q rest = passes-over base region′ name k a slots (h .0 ∙ q) ∙ rest ∙ sym (passes-over base region name k a slots q)
 
 -- a hit with the number of each slot from n on one higher
 abbrev later : ℕ → Body → Body
@@ -252,7 +241,7 @@ module _ (base : ℕ) (region name : List ℕ) (a : ℕ) (q : leads base region 
 
 pub body-inside : BodyInside
 body-inside base region root name b e =
-    let one = found-only base region root name b e in
+    let one = found-only base region root name b e .only in
     rw (one .is) (body-end base region name (one .address) (one .leads-there) (length (one .before)))
 
 drop-take : (m n : ℕ) (s : List ℕ) → drop m (take n s) ≡ take (n - m) (drop m s)
@@ -262,6 +251,6 @@ drop-take (suc m) (suc n) [] = sym (take-nil (suc n - suc m))
 drop-take (suc m) (suc n) (x ∷ s) = let less : suc n - suc m ≡ n - m = omega arith in rw less (drop-take m n s)
 
 pub body-bytes : BodyBytes
-body-bytes base region root name b one =
-    let t = tableAt base region (one .address) in
-    rw (one .is, ← drop-drop tableHeader (one .address - base) region) (sym (drop-take tableHeader (usedOf t) t))
+body-bytes base region slot address =
+    let t = tableAt base region address in
+    rw (← drop-drop tableHeader (address - base) region) (sym (drop-take tableHeader (usedOf t) t))

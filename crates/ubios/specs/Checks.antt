@@ -32,7 +32,7 @@ numberOf BadName = 39
 abbrev pub tableAt : ℕ → List ℕ → ℕ → List ℕ
 tableAt base region address = drop (address - base) region
 
--- 30: "region runs past 2^64, or the header isn't inside it". All sums are of exact numbers; a region that ends at 2^64 is one
+-- 30: "region runs past 2^64, or the header isn't inside it". All sums are of exact numbers; a region that ends at 2^64 is legal
 unfoldable pub outside : ℕ → ℕ → ℕ → ℕ → Bool
 outside header base size address =
     ltb (2 ^ 64) (base + size)

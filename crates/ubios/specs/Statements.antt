@@ -1,6 +1,7 @@
--- What is proved of the checks and of the look-up. The proofs are in `proofs/Theorems.antt`, under the names given here.
+-- What is proved of the checks and of the look-up. The proofs are in `proofs/Theorems.antt`, those of `laid-passes`, `laid-root` and `laid-name` in
+-- `proofs/Laid.antt`, under the names given here.
 -- Assumes nothing.
-use Prim.Native.Nat.{ℕ, suc, _+_, _-_, _%_, _^_, _≤_}
+use Prim.Native.Nat.{ℕ, suc, _+_, _-_, _%_, _^_, _≤_, _<_}
 use mathlib.Core.Bool.{true, false, cond}
 use mathlib.Core.Path.{_≡_}
 use mathlib.Core.List.{List, [], _∷_, _++_}
@@ -8,7 +9,7 @@ use lib.Dec.{ltb}
 use lib.ListN.{length, take, drop}
 use Rattle.le.specs.Word.{bytes}
 use Rattle.le.specs.Sum.{sum}
-use Rattle.ubios.specs.Layout.{tableHeader, totalMax, nameMax, version, nameOf, usedOf, slotsOf}
+use Rattle.ubios.specs.Layout.{tableHeader, totalMax, countMax, nameMax, version, nameOf, usedOf, rootName, slotsOf}
 use Rattle.ubios.specs.Checks.{tableAt, checked, rootChecked}
 use Rattle.ubios.specs.Lookup.{badName, leads, bodyAt, found}
 use Rattle.ubios.specs.declared.Root.{Root}
@@ -34,20 +35,25 @@ pub record OnlyOne (base : ℕ) (region : List ℕ) (root : ℕ) (name : List �
   pub none-after : NoneLeads base region name after
   pub is : b ≡ bodyAt base region (length before) address
 
--- `found-only`. What is found is where the only slot that leads to a passing table of the name leads; and `only-found`, what that leads to is found, wherever the slot
--- stands, for every name that can be sought and every root that passes.
+-- what a look-up that finds it rests on
+pub record FoundBy (base : ℕ) (region : List ℕ) (root : ℕ) (name : List ℕ) (b : Body) : Type 0 where
+  pub sought : badName name ≡ false
+  pub root-table : Root
+  pub root-passes : rootChecked base region root ≡ RootPassed root-table
+  pub only : OnlyOne base region root name b
+
+-- `found-only`, `only-found`. A body is found exactly where the name can be sought, the root passes, and one slot among all leads to a passing table of the name,
+-- wherever it stands; and it is that table's.
 abbrev pub FoundOnly : Type 0
 FoundOnly =
     (base : ℕ) (region : List ℕ) (root : ℕ) (name : List ℕ) (b : Body)
     → found base region root name ≡ Only b
-    → OnlyOne base region root name b
+    → FoundBy base region root name b
 
 abbrev pub OnlyFound : Type 0
 OnlyFound =
-    (base : ℕ) (region : List ℕ) (root : ℕ) (name : List ℕ) (r : Root) (b : Body)
-    → badName name ≡ false
-    → rootChecked base region root ≡ RootPassed r
-    → OnlyOne base region root name b
+    (base : ℕ) (region : List ℕ) (root : ℕ) (name : List ℕ) (b : Body)
+    → FoundBy base region root name b
     → found base region root name ≡ Only b
 
 -- `behind-gap`. A table behind a gap is found, wherever the gap stands before it.
@@ -63,21 +69,21 @@ BehindGap =
     → NoneLeads base region name after
     → found base region root name ≡ Only (bodyAt base region (length before + suc (length between)) address)
 
--- at these addresses stand the same tables, in two regions from the same address on: the checks give the same answer, and the names are the same
-abbrev pub SameTables : ℕ → List ℕ → List ℕ → List ℕ → Type 0
-SameTables base region region′ [] = Unit {0}
-SameTables base region region′ (a ∷ slots) =
-    (checked tableHeader base region a ≡ checked tableHeader base region′ a)
-    × (nameOf (tableAt base region a) ≡ nameOf (tableAt base region′ a))
-    × SameTables base region region′ slots
+-- in two regions from the same address on, slots with these addresses lead to the same tables of the name, or to none
+abbrev pub SameTables : ℕ → List ℕ → List ℕ → List ℕ → List ℕ → Type 0
+SameTables base region region′ name [] = Unit {0}
+SameTables base region region′ name (a ∷ slots) =
+    (leads base region′ name a ≡ leads base region name a)
+    × (leads base region name a ≡ true → usedOf (tableAt base region′ a) ≡ usedOf (tableAt base region a))
+    × SameTables base region region′ name slots
 
 -- the answer with the number of each slot from k on one higher
 abbrev pub movedOn : ℕ → Found → Found
 movedOn k (Refused reason) = Refused reason
 movedOn k (Only b) = Only (record { slot = cond (ltb (b .slot) k) (b .slot) (suc (b .slot)); at = b .at; length = b .length })
 
--- `gap-added`. A gap more, anywhere among the slots, changes no answer but the number of a slot behind it: of two passing roots, with the same tables at the
--- addresses in their slots, where the second has a gap more.
+-- `gap-added`. A gap more, anywhere among the slots, changes no answer but the number of a slot behind it: of two passing roots, the second with a gap more, whose
+-- slots lead to the same tables of the name.
 abbrev pub GapAdded : Type 0
 GapAdded =
     (base : ℕ) (region region′ : List ℕ) (root root′ : ℕ) (name : List ℕ) (r r′ : Root) (before after : List ℕ)
@@ -85,7 +91,7 @@ GapAdded =
     → rootChecked base region′ root′ ≡ RootPassed r′
     → slotsOf (tableAt base region root) ≡ before ++ after
     → slotsOf (tableAt base region′ root′) ≡ before ++ (0 ∷ after)
-    → SameTables base region region′ (before ++ after)
+    → SameTables base region region′ name (before ++ after)
     → found base region′ root′ name ≡ movedOn (length before) (found base region root name)
 
 -- `body-inside`. The body that is found lies inside the region.
@@ -95,37 +101,77 @@ BodyInside =
     → found base region root name ≡ Only b
     → b .at + b .length ≤ length region
 
--- `body-bytes`. It is the used part, from byte 32 on, of the table that the slot leads to.
+-- `body-bytes`. The body of a slot is the used part, from byte 32 on, of the table at its address.
 abbrev pub BodyBytes : Type 0
 BodyBytes =
-    (base : ℕ) (region : List ℕ) (root : ℕ) (name : List ℕ) (b : Body)
-    → (one : OnlyOne base region root name b)
-    → take (b .length) (drop (b .at) region)
-    ≡ drop tableHeader (take (usedOf (tableAt base region (one .address))) (tableAt base region (one .address)))
+    (base : ℕ) (region : List ℕ) (slot address : ℕ)
+    → take (bodyAt base region slot address .length) (drop (bodyAt base region slot address .at) region)
+    ≡ drop tableHeader (take (usedOf (tableAt base region address)) (tableAt base region address))
 
--- a table as the rules lay it out: the name's 16 bytes, Total Size, Version, reserved, Remaining Size, Checksum, and the body
-abbrev pub headOf : List ℕ → ℕ → ℕ → List ℕ
-headOf field total remaining = field ++ (bytes 4 total ++ (version ∷ 0 ∷ 0 ∷ 0 ∷ bytes 4 remaining))
+-- a table as the rules lay it out: the name's 16 bytes, Total Size, Version, three bytes reserved, Remaining Size, Checksum, and the body
+abbrev pub headOf : List ℕ → ℕ → List ℕ → ℕ → List ℕ
+headOf field total reserved remaining = field ++ (bytes 4 total ++ ((version ∷ reserved) ++ bytes 4 remaining))
 
 -- the Checksum that brings the sum of the used part to 0
 abbrev pub checksumOf : List ℕ → List ℕ → ℕ
 checksumOf head body = (2 ^ 32 - sum 4 (head ++ (bytes 4 0 ++ body))) % 2 ^ 32
 
-abbrev pub tableOf : List ℕ → ℕ → List ℕ → List ℕ
-tableOf field remaining body =
-    headOf field (tableHeader + length body + remaining) remaining
-    ++ (bytes 4 (checksumOf (headOf field (tableHeader + length body + remaining) remaining) body) ++ body)
+abbrev pub tableOf : List ℕ → List ℕ → ℕ → List ℕ → List ℕ
+tableOf field reserved remaining body =
+    headOf field (tableHeader + length body + remaining) reserved remaining
+    ++ (bytes 4 (checksumOf (headOf field (tableHeader + length body + remaining) reserved remaining) body) ++ body)
 
--- `laid-passes`. Each table that is laid out by the rules passes its checks, at any aligned address of any memory: any name, any body, any Remaining Size. A header of 40
--- is the root's.
+-- a memory with that table, at that address
+pub record Laid (base : ℕ) (front field reserved : List ℕ) (remaining : ℕ) (body rest : List ℕ) : Type 0 where
+  pub named : length field ≡ nameMax
+  pub three : length reserved ≡ 3
+  pub most : tableHeader + length body + remaining ≤ totalMax
+  pub left : remaining ≤ length rest
+  pub aligned : (base + length front) % 8 ≡ 0
+  pub top : base + length (front ++ (tableOf field reserved remaining body ++ rest)) ≤ 2 ^ 64
+
+-- `laid-passes`. Each table that is laid out by the rules passes its checks, at any aligned address of any memory: any name, any body, any Remaining Size.
 abbrev pub LaidPasses : Type 0
 LaidPasses =
-    (header base : ℕ) (front field : List ℕ) (remaining : ℕ) (body rest : List ℕ)
-    → length field ≡ nameMax
+    (header base : ℕ) (front field reserved : List ℕ) (remaining : ℕ) (body rest : List ℕ)
     → header ≤ tableHeader + length body
-    → tableHeader + length body + remaining ≤ totalMax
-    → remaining ≤ length rest
-    → (base + length front) % 8 ≡ 0
-    → base + length (front ++ (tableOf field remaining body ++ rest)) ≤ 2 ^ 64
-    → checked header base (front ++ (tableOf field remaining body ++ rest)) (base + length front)
+    → Laid base front field reserved remaining body rest
+    → checked header base (front ++ (tableOf field reserved remaining body ++ rest)) (base + length front)
     ≡ Passed (record { at = length front; used = tableHeader + length body })
+
+-- `laid-name`. The name of a table is what stands in its field before the first zero, whatever follows.
+abbrev pub LaidName : Type 0
+LaidName =
+    (base : ℕ) (front name junk behind : List ℕ)
+    → badName name ≡ false
+    → length (name ++ (0 ∷ junk)) ≡ nameMax
+    → nameOf (tableAt base (front ++ ((name ++ (0 ∷ junk)) ++ behind)) (base + length front)) ≡ name
+
+-- the slots of a root, one after another
+unfoldable pub slotBytes : List ℕ → List ℕ
+slotBytes [] = []
+slotBytes (a ∷ slots) = bytes 8 a ++ slotBytes slots
+
+-- each address has 64 bits
+abbrev pub Addresses : List ℕ → Type 0
+Addresses [] = Unit {0}
+Addresses (a ∷ slots) = (a < 2 ^ 64) × Addresses slots
+
+-- a root's body: Count, six bytes reserved, the slots, and what else is used
+abbrev pub rootBody : List ℕ → List ℕ → List ℕ → List ℕ
+rootBody six slots more = bytes 2 (length slots) ++ (six ++ (slotBytes slots ++ more))
+
+-- `laid-root`. Each root that is laid out by the rules, with at most 128 slots, passes the checks of a root, and its slots are those that were laid out.
+pub record RootLaid (base : ℕ) (region : List ℕ) (root at used : ℕ) (slots : List ℕ) : Type 0 where
+  pub passes : rootChecked base region root ≡ RootPassed (record { table = record { at = at; used = used }; count = length slots })
+  pub slots-are : slotsOf (tableAt base region root) ≡ slots
+
+abbrev pub LaidRoot : Type 0
+LaidRoot =
+    (base : ℕ) (front junk reserved : List ℕ) (remaining : ℕ) (six slots more rest : List ℕ)
+    → length six ≡ 6
+    → length slots ≤ countMax
+    → Addresses slots
+    → Laid base front (rootName ++ (0 ∷ junk)) reserved remaining (rootBody six slots more) rest
+    → RootLaid base (front ++ (tableOf (rootName ++ (0 ∷ junk)) reserved remaining (rootBody six slots more) ++ rest)) (base + length front) (length front)
+    (tableHeader + length (rootBody six slots more)) slots

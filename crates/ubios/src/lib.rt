@@ -170,10 +170,10 @@ impl Table {
 
 impl Root {
     pub const HEADER: usize = 40;
-    // The most slots, and the size of each.
+    // The most slots.
     pub const COUNT_MAX: usize = 128;
-
-    pub const SLOT: usize = 8;
+    // The size of each.
+    pub const SLOT_SIZE: usize = 8;
 
     // 35 and 36, of a root that passes the checks of a table.
     fn judge(table: Table, root: &[u8]) -> RootChecked
@@ -186,7 +186,7 @@ impl Root {
         if Self::COUNT_MAX < count {
             return RootChecked::Refused(Reason::BadCount);
         }
-        if table.used < Self::HEADER + Self::SLOT * count {
+        if table.used < Self::HEADER + Self::SLOT_SIZE * count {
             return RootChecked::Refused(Reason::BadCount);
         }
         RootChecked::Passed(Root { table, count })

@@ -14,7 +14,7 @@ ghost use Rattle.ubios.specs.Layout.{countMax, addresses};
 ghost use Rattle.ubios.specs.Lookup.{badName, hits, lookedUp, found};
 ghost use Rattle.ubios.specs.Helpers.{hitOf, firstOf};
 
-// The slot, counted from 0 and gaps too, and the body's place and length in the region: the table's used part
+// The slot, counted from 0 with the gaps, and the body's place and length in the region: the table's used part
 // behind its header.
 pub struct Body {
     pub slot: usize,
@@ -66,7 +66,7 @@ fn next_hit(region: &[u8], base: u64, name: &[u8], slots: &[u8], count: usize, f
 {
     let mut slot = from;
     while slot < count {
-        let address = le::word::u64_at(slots, Root::SLOT * slot);
+        let address = le::word::u64_at(slots, Root::SLOT_SIZE * slot);
         let hit = follow(region, base, name, slot, address);
         match hit {
             Hit::None => {}

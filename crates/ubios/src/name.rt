@@ -7,7 +7,7 @@ ghost use Rattle.ubios.specs.Layout.{upToZero, nameOf};
 ghost use Rattle.ubios.specs.Lookup.{badName};
 
 // The longest name.
-pub const NAME_MAX: usize = 16;
+pub(crate) const NAME_MAX: usize = 16;
 
 // How many bytes stand before the first zero.
 fn zero_at(s: &[u8]) -> usize
@@ -23,8 +23,8 @@ fn zero_at(s: &[u8]) -> usize
     i
 }
 
-// Whether no table can have that name.
-pub fn is_bad_name(name: &[u8]) -> bool
+// Whether a name cannot be sought.
+pub(crate) fn is_bad_name(name: &[u8]) -> bool
     ensures { λ r. ⌜ r ≡ badName (now (name .entry)) ⌝ }
 {
     if name.len() == 0 {
@@ -37,7 +37,7 @@ pub fn is_bad_name(name: &[u8]) -> bool
 }
 
 // Whether a table has that name: it starts with it, and then comes a zero, unless the name fills its field.
-pub fn is_named(table: &[u8], name: &[u8]) -> bool
+pub(crate) fn is_named(table: &[u8], name: &[u8]) -> bool
     requires { ⌜ badName (now name) ≡ false ⌝ }
     ensures { λ r. ⌜ r ≡ same (nameOf (now (table .entry))) (now (name .entry)) ⌝ }
 {

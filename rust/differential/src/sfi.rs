@@ -9,7 +9,7 @@ use reference::sfi::{self, Source, Table};
 use std::fmt::{Arguments, Debug, Display, Formatter, Result as Printed};
 
 /// One more than the highest answer.
-const ANSWERS: usize = 49;
+const ANSWERS: usize = 103;
 
 /// Both implementations, and the safe wrapper besides. Each call, and all that it was lent, is
 /// compared. How often each answer was given is counted, so that a test that misses one fails.
@@ -184,8 +184,8 @@ fn raw_choose(
 /// What the C function is to answer.
 fn choice_number(choice: Result<(Source, usize), Refusal>) -> u32 {
     match choice {
-        Ok((Source::Board, _)) => 1,
-        Ok((Source::BuiltIn, _)) => 2,
+        Ok((Source::Board, _)) => 101,
+        Ok((Source::BuiltIn, _)) => 102,
         Err(refusal) => refusal,
     }
 }

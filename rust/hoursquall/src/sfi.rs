@@ -146,8 +146,8 @@ pub fn chosen<'a>(signature: u32, board: &'a [u8], built_in: &'a [u8]) -> &'a [u
 /// refusal.
 fn source(answer: u32) -> Result<Source, Refusal> {
     match answer {
-        1 => Ok(Source::Board),
-        2 => Ok(Source::BuiltIn),
+        101 => Ok(Source::Board),
+        102 => Ok(Source::BuiltIn),
         refusal => Err(refusal),
     }
 }

@@ -1,0 +1,128 @@
+-- The laws of a record: one for each answer, with what leads there.
+-- Assumes nothing.
+use Prim.Native.Nat.{ℕ, zero, suc, _+_, _-_, _≤_, _<_}
+use mathlib.Core.Bool.{true, false}
+use mathlib.Core.Path.{_≡_, refl, ap, ap₂, _∙_}
+use mathlib.Core.List.{List, _∷_, _++_, append-nil, append-assoc}
+use borrow.Author.Tests.{lt-ltb, le-ltb, eq-eqb, ne-eqb}
+use native.Mathlib.Omega.{arith}
+use borrow.Rule.Slice.PartMut.{midOf, putMid}
+use lib.ListN.{length, take, drop, length-append, length-drop, length-replicate, drop-of-length-le}
+use lib.Seq.{take-append-add, drop-append-add, drop-drop}
+use Rattle.le.specs.Word.{bytes}
+use Rattle.le.specs.Copy.{copied}
+use Rattle.le.proofs.Words.{length-bytes}
+use Rattle.le.proofs.Parts.{copied-whole, copied-at}
+use Rattle.framelog.specs.Layout.{headerSize, frameMax, lengthOf, reservedOf, zeros, restOf, recordOf}
+use Rattle.framelog.specs.Helpers.{filled}
+use Rattle.framelog.specs.Reading.{isZero, readOf}
+use Rattle.framelog.specs.Writing.{written}
+use Rattle.framelog.specs.declared.Reason.the-variants.{WrongSize, NotZero, FrameLong, BadEnd}
+use Rattle.framelog.specs.declared.Logged.the-variants.{Frame, Refused}
+use Rattle.framelog.specs.declared.Written.the-variants.{Done, Refused as NotWritten}
+
+-- parts of zeros
+pub take-zeros : (n m : ℕ) → n ≤ m → take n (zeros m) ≡ zeros n
+take-zeros zero m h = refl
+take-zeros (suc n) zero h = absurd (omega arith)
+take-zeros (suc n) (suc m) h = ap (λ (l : List ℕ). 0 ∷ l) (take-zeros n m (omega arith))
+
+pub drop-zeros : (n m : ℕ) → drop n (zeros m) ≡ zeros (m - n)
+drop-zeros zero m = let all : m - 0 ≡ m = omega arith in rw all
+drop-zeros (suc n) zero = let none : 0 - suc n ≡ 0 = omega arith in rw none
+drop-zeros (suc n) (suc m) = let less : suc m - suc n ≡ m - n = omega arith in rw less (drop-zeros n m)
+
+-- 50, 52, 51, 53, and the frame
+module _ (size : ℕ) (r : List ℕ) where
+  pub wrong-size : (length r ≡ size → ⊥) → readOf size r ≡ Refused WrongSize
+  unfolding readOf
+  wrong-size ne = rw (ne-eqb (length r) size ne)
+
+  module _ (whole : length r ≡ size) where
+    pub frame-long : frameMax size < lengthOf r → readOf size r ≡ Refused FrameLong
+    unfolding readOf
+    frame-long h = rw (eq-eqb (length r) size whole, lt-ltb (frameMax size) (lengthOf r) h)
+
+    module _ (most : lengthOf r ≤ frameMax size) where
+      pub not-zero : isZero (reservedOf r) ≡ false → readOf size r ≡ Refused NotZero
+      unfolding readOf
+      not-zero e = rw (eq-eqb (length r) size whole, le-ltb (frameMax size) (lengthOf r) most, e)
+
+      module _ (reserved : isZero (reservedOf r) ≡ true) where
+        pub bad-end : isZero (restOf r) ≡ false → readOf size r ≡ Refused BadEnd
+        unfolding readOf
+        bad-end e = rw (eq-eqb (length r) size whole, le-ltb (frameMax size) (lengthOf r) most, reserved, e)
+
+        pub frame-read : isZero (restOf r) ≡ true → readOf size r ≡ Frame (lengthOf r)
+        unfolding readOf
+        frame-read e = rw (eq-eqb (length r) size whole, le-ltb (frameMax size) (lengthOf r) most, reserved, e)
+
+-- 50, 52, and the record
+module _ (size : ℕ) (frame slice : List ℕ) where
+  pub write-size : (length slice ≡ size → ⊥) → written size frame slice ≡ NotWritten WrongSize
+  unfolding written
+  write-size ne = rw (ne-eqb (length slice) size ne)
+
+  module _ (whole : length slice ≡ size) where
+    pub write-long : frameMax size < length frame → written size frame slice ≡ NotWritten FrameLong
+    unfolding written
+    write-long h = rw (eq-eqb (length slice) size whole, lt-ltb (frameMax size) (length frame) h)
+
+    pub write-done : length frame ≤ frameMax size → written size frame slice ≡ Done
+    unfolding written
+    write-done h = rw (eq-eqb (length slice) size whole, le-ltb (frameMax size) (length frame) h)
+
+-- a record is filled: the length at its start, then the frame from byte 4 on
+module _ (frame r : List ℕ) (large : headerSize + length frame ≤ length r) where
+  with-length : (len first : List ℕ) → len ≡ bytes 2 (length frame) → first ≡ copied len r → first ≡ bytes 2 (length frame) ++ drop 2 r
+  with-length len first e-len e =
+      let two : length (bytes 2 (length frame)) ≡ 2 = length-bytes 2 (length frame) in
+      e
+      ∙ ap (λ (l : List ℕ). copied l r) e-len
+      ∙ copied-whole (bytes 2 (length frame)) r (omega arith)
+      ∙ ap (λ (n : ℕ). bytes 2 (length frame) ++ drop n r) two
+
+  pub fills : (len first part : List ℕ) → len ≡ bytes 2 (length frame) → first ≡ copied len r
+      → part ≡ copied frame (midOf headerSize (length first - headerSize) first)
+      → putMid headerSize (length first - headerSize) first part ≡ filled frame r
+  fills len first part e-len e-first e-part =
+      let word = bytes 2 (length frame) in
+      let two : length word ≡ 2 = length-bytes 2 (length frame) in
+      let first-is = with-length len first e-len e-first in
+      let size : length first ≡ 2 + (length r - 2) = ap length first-is ∙ length-append word (drop 2 r) ∙ ap₂ _+_ two (length-drop 2 r) in
+      let four : headerSize ≡ length word + 2 = omega arith in
+      let behind : headerSize + length frame ≡ length word + (2 + length frame) = omega arith in
+      let on : 2 + (2 + length frame) ≡ headerSize + length frame = omega arith in
+      let head : take headerSize first ≡ word ++ take 2 (drop 2 r) =
+      ap (take headerSize) first-is ∙ ap (λ (n : ℕ). take n (word ++ drop 2 r)) four ∙ take-append-add word (drop 2 r) 2 in
+      let tail : drop (headerSize + length frame) first ≡ drop (headerSize + length frame) r =
+      ap (drop (headerSize + length frame)) first-is
+      ∙ ap (λ (n : ℕ). drop n (word ++ drop 2 r)) behind
+      ∙ drop-append-add word (drop 2 r) (2 + length frame)
+      ∙ drop-drop (2 + length frame) 2 r
+      ∙ ap (λ (n : ℕ). drop n r) on in
+      copied-at frame first part headerSize (omega arith) e-part
+      ∙ ap₂ (λ (x y : List ℕ). x ++ (frame ++ y)) head tail
+      ∙ append-assoc word (take 2 (drop 2 r)) (frame ++ drop (headerSize + length frame) r)
+
+-- of zeros that gives the record, which is copied over all of a slice of its size
+module _ (size : ℕ) (frame : List ℕ) (large : headerSize ≤ size) (fits : length frame ≤ frameMax size) where
+  pub of-zeros : filled frame (zeros size) ≡ recordOf size frame
+  of-zeros =
+      let left : size - (headerSize + length frame) ≡ frameMax size - length frame = omega arith in
+      ap₂ (λ (x y : List ℕ). bytes 2 (length frame) ++ (x ++ (frame ++ y)))
+      (ap (take 2) (drop-zeros 2 size) ∙ take-zeros 2 (size - 2) (omega arith))
+      (drop-zeros (headerSize + length frame) size ∙ ap zeros left)
+
+  pub record-length : length (recordOf size frame) ≡ size
+  record-length = simp (length-append, length-bytes, length-replicate) (omega arith)
+
+  pub copied-out : (slice out r : List ℕ) → length slice ≡ size → r ≡ filled frame (zeros size) → out ≡ copied r slice → out ≡ recordOf size frame
+  copied-out slice out r whole e-r e =
+      let is = e-r ∙ of-zeros in
+      let long : length r ≡ size = ap length is ∙ record-length in
+      e
+      ∙ copied-whole r slice (omega arith)
+      ∙ ap (λ (l : List ℕ). r ++ l) (drop-of-length-le slice {i = length r} (omega arith))
+      ∙ append-nil r
+      ∙ is
