@@ -1,5 +1,5 @@
 /* Hoursquall: UBIOS message frames, their reassembly into messages, the notice ring,
- * UBIOS tables, SFI tables, and the checksums of both.
+ * UBIOS tables, SFI tables, the checksums of both, and the frame log.
  *
  * Link target/staticlib/libhoursquall.a (x86-64, System V calling convention).
  *
@@ -34,6 +34,9 @@ enum {
     HS_SFI_HEADER_SIZE = 24,
     HS_SFI_MAX = 65536,          /* an SFI table's Length */
     HS_SFI_MEMORY_SIZE = 131072, /* what SYST is sought in: 0xE0000 to 0xFFFFF */
+    HS_LOG_RECORD_SIZE = 260,
+    HS_LOG_HEADER_SIZE = 4, /* what stands before the frame in a record */
+    HS_LOG_FRAME_MAX = 256, /* a frame in a record */
 };
 
 /* Places of the words that hs_frame_parse hands out, in the frame's order. */
@@ -138,6 +141,14 @@ enum {
     HS_REFUSED_SFI_MEMORY = 46,    /* memory_len is not HS_SFI_MEMORY_SIZE */
     HS_REFUSED_NO_SYST = 47,       /* SYST is nowhere in the memory */
     HS_REFUSED_NEITHER = 48,       /* neither table passes with the signature */
+};
+
+/* Refusals of the frame log. */
+enum {
+    HS_REFUSED_LOG_SIZE = 50,       /* record_len is not HS_LOG_RECORD_SIZE */
+    HS_REFUSED_LOG_NOT_ZERO = 51,   /* byte 2 or 3 of the record is not zero */
+    HS_REFUSED_LOG_FRAME_LONG = 52, /* frame over HS_LOG_FRAME_MAX bytes */
+    HS_REFUSED_LOG_END = 53,        /* a byte behind the frame is not zero */
 };
 
 /* The bytes added up modulo 2^8, the sum of SFI tables. Changes nothing. */
@@ -290,6 +301,16 @@ uint32_t hs_sfi_find_syst(const uint8_t *memory, size_t memory_len, size_t *offs
  * it. Refusals 42, 48: *length is unchanged. */
 uint32_t hs_sfi_choose(uint32_t signature, const uint8_t *board, size_t board_len,
                        const uint8_t *built_in, size_t built_in_len, size_t *length);
+
+/* Reads a record of the frame log: the frame's length (16 bits), two zero bytes, the
+ * frame, and zeros to the end. HS_OK: *frame_len is the frame's length; the frame stands
+ * from byte HS_LOG_HEADER_SIZE on. Refusals 50, 52, 51, 53: *frame_len is unchanged. */
+uint32_t hs_log_read(const uint8_t *record, size_t record_len, size_t *frame_len);
+
+/* Writes the record of a frame. HS_OK: all of record is overwritten. Refusals 50, 52:
+ * record is unchanged. */
+uint32_t hs_log_write(const uint8_t *frame, size_t frame_len, uint8_t *record,
+                      size_t record_len);
 
 #ifdef __cplusplus
 }

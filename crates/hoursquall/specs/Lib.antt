@@ -4,3 +4,4 @@ pub mod Notice
 pub mod Reassembly
 pub mod Sfi
 pub mod Ubios
+pub mod FrameLog

@@ -13,6 +13,10 @@ ghost use Rattle.ubios.specs.Lookup.{found};
 ghost use Rattle.sfi.specs.Checks as SfiChecks;
 ghost use Rattle.sfi.specs.Search.{located};
 ghost use Rattle.sfi.specs.Choice.{chosen};
+ghost use Rattle.framelog.specs.Layout.{recordSize};
+ghost use Rattle.framelog.specs.Reading.{readOf};
+ghost use Rattle.framelog.specs.Writing as LogWriting;
+ghost use Rattle.hoursquall.specs.FrameLog as Log;
 ghost use Rattle.hoursquall.specs.Reassembly.{stateOf, blockOf, verdictNumber, wordsAfter};
 ghost use Rattle.hoursquall.specs.Frame.{parseNumber, headerAfter, countNumber, countAfter, writeNumber, lengthAfter, envelopeOf};
 ghost use Rattle.hoursquall.specs.Notice.{positionsOf, postNumber, positionsAfterPost, takeNumber, positionsAfterTake, idAfter, dataLengthAfter};
@@ -24,6 +28,7 @@ mod state;
 use frame::read::Parsed;
 use frame::write::Counted;
 use frame::write::Written;
+use framelog::Logged;
 use notice::Positions;
 use notice::Posted;
 use notice::Taken;
@@ -345,5 +350,32 @@ pub extern "C" fn hs_sfi_choose(
             *extent = sfi::length_of(built_in);
             102
         }
+    }
+}
+
+// Reads a record of the frame log; `extent` receives the length of the frame, which stands from byte 4 on.
+#[no_mangle]
+pub extern "C" fn hs_log_read(slice: &[u8], extent: &mut usize) -> u32
+    ensures { λ r. ⌜ r ≡ Log.readNumber (readOf recordSize (now (slice .entry))) ⌝ }
+    ensures { λ _. ⌜ now (extent .exit) ≡ Log.frameLengthAfter (readOf recordSize (now (slice .entry))) (now (extent .entry)) ⌝ }
+{
+    match framelog::read(slice) {
+        Logged::Refused(reason) => reason.number(),
+        Logged::Frame(logged) => {
+            *extent = logged;
+            0
+        }
+    }
+}
+
+// Writes the record of a frame over all of `slice`.
+#[no_mangle]
+pub extern "C" fn hs_log_write(frame: &[u8], slice: &mut [u8]) -> u32
+    ensures { λ r. ⌜ r ≡ Log.writeNumber (LogWriting.written recordSize (now (frame .entry)) (now (slice .entry))) ⌝ }
+    ensures { λ _. ⌜ now (slice .exit) ≡ LogWriting.sliceAfter (LogWriting.written recordSize (now (frame .entry)) (now (slice .entry))) recordSize (now (frame .entry)) (now (slice .entry)) ⌝ }
+{
+    match framelog::write(frame, slice) {
+        framelog::Written::Done => 0,
+        framelog::Written::Refused(reason) => reason.number(),
     }
 }

@@ -6,6 +6,8 @@ const NOTICE_HEADER_SIZE: usize = 8;
 const TABLE_HEADER_SIZE: usize = 32;
 const ROOT_HEADER_SIZE: usize = 40;
 const SFI_HEADER_SIZE: usize = 24;
+const LOG_HEADER_SIZE: usize = 4;
+const RECORD_SIZE: usize = 260;
 const PAGE: usize = 4096;
 
 #[inline(never)]
@@ -469,6 +471,42 @@ fn sfi_table(slice: &[u8]) -> Result<&[u8], u32> {
         return Err(41);
     }
     Ok(table)
+}
+
+#[inline(never)]
+pub fn log_write(frame: &[u8], record: &mut [u8]) -> u32 {
+    if record.len() != RECORD_SIZE {
+        return 50;
+    }
+    if frame.len() > 256 {
+        return 52;
+    }
+    let end = LOG_HEADER_SIZE + frame.len();
+    record[..2].copy_from_slice(&(frame.len() as u16).to_le_bytes());
+    record[2..LOG_HEADER_SIZE].fill(0);
+    record[LOG_HEADER_SIZE..end].copy_from_slice(frame);
+    record[end..].fill(0);
+    0
+}
+
+#[inline(never)]
+pub fn log_read(record: &[u8], frame_len: &mut usize) -> u32 {
+    if record.len() != RECORD_SIZE {
+        return 50;
+    }
+    let length = usize::from(u16::from_le_bytes([record[0], record[1]]));
+    if length > 256 {
+        return 52;
+    }
+    if record[2] != 0 || record[3] != 0 {
+        return 51;
+    }
+    let rest = &record[LOG_HEADER_SIZE + length..];
+    if rest.iter().any(|&byte| byte != 0) {
+        return 53;
+    }
+    *frame_len = length;
+    0
 }
 
 fn word_at(bytes: &[u8], at: usize) -> u32 {

@@ -154,3 +154,17 @@ pub fn find_syst(memory: &[u8], offset: &mut usize) -> u32 {
     // SAFETY: the pointer and the length are those of one slice; `offset` is borrowed exclusively.
     unsafe { raw::hs_sfi_find_syst(memory.as_ptr(), memory.len(), offset) }
 }
+
+#[inline(always)]
+pub fn log_write(frame: &[u8], record: &mut [u8]) -> u32 {
+    let (start, record_len) = (record.as_mut_ptr(), record.len());
+    // SAFETY: each pointer and length are those of one slice; `record` is borrowed exclusively.
+    unsafe { raw::hs_log_write(frame.as_ptr(), frame.len(), start, record_len) }
+}
+
+#[inline(always)]
+pub fn log_read(record: &[u8], frame_len: &mut usize) -> u32 {
+    // SAFETY: the pointer and the length are those of one slice; `frame_len` is borrowed
+    // exclusively.
+    unsafe { raw::hs_log_read(record.as_ptr(), record.len(), frame_len) }
+}

@@ -25,6 +25,9 @@ const TABLE: usize = 256;
 
 const MEMORY: usize = 131_072;
 
+const FRAME: usize = 256;
+const RECORD: usize = 260;
+
 /// The functions as both sides have them.
 type Parse = fn(&[u8], u32, &mut [u32; 6]) -> u32;
 type Count = fn(usize, usize, &mut usize) -> u32;
@@ -36,6 +39,8 @@ type Table = fn(&[u8], u64, u64, &mut [usize; 2]) -> u32;
 type Find = fn(&[u8], u64, u64, &[u8], &mut [usize; 3]) -> u32;
 type SfiCheck = fn(&[u8], &mut u32, &mut usize) -> u32;
 type FindSyst = fn(&[u8], &mut usize) -> u32;
+type LogWrite = fn(&[u8], &mut [u8]) -> u32;
+type LogRead = fn(&[u8], &mut usize) -> u32;
 
 fn main() {
     print_head();
@@ -57,6 +62,7 @@ fn main() {
         "find SYST, 128 KiB, 8,192 false signatures",
         &false_signatures(),
     );
+    log_write_and_read();
 }
 
 fn sums() {
@@ -186,6 +192,32 @@ fn find_syst(what: &str, memory: &[u8]) {
         || call_find_syst(library::find_syst, memory),
         || call_find_syst(baseline::find_syst, memory),
     );
+}
+
+/// The write of a frame's record, and the read of that record.
+fn log_write_and_read() {
+    let frame: [u8; FRAME] = pattern(FRAME).try_into().expect("it has that length");
+    let (mut library_record, mut rust_record) = ([0; RECORD], [0; RECORD]);
+    print_row(
+        "log, write and read a frame of 256 B",
+        || {
+            call_log(
+                library::log_write,
+                library::log_read,
+                &frame,
+                &mut library_record,
+            )
+        },
+        || {
+            call_log(
+                baseline::log_write,
+                baseline::log_read,
+                &frame,
+                &mut rust_record,
+            )
+        },
+    );
+    assert_eq!(library_record, rust_record, "the records differ");
 }
 
 /// At every 16th byte a SYST with one entry that is right in all but its sum. So each is summed,
@@ -360,4 +392,18 @@ fn call_find_syst(find_syst: FindSyst, memory: &[u8]) -> (u32, usize) {
     let mut offset = 0;
     let answer = find_syst(black_box(memory), &mut offset);
     (answer, offset)
+}
+
+#[inline(always)]
+fn call_log(
+    write: LogWrite,
+    read: LogRead,
+    frame: &[u8; FRAME],
+    record: &mut [u8; RECORD],
+) -> (u32, usize) {
+    let mut frame_len = 0;
+    let (frame, record) = (black_box(frame), black_box(record));
+    let written = write(frame, record);
+    let read = read(record, &mut frame_len);
+    (written + read, frame_len)
 }

@@ -2,6 +2,7 @@
 //! the memory that it was lent, with the reference; seeds are fixed, so that a failure repeats.
 
 pub mod faults;
+pub mod framelog;
 pub mod frames;
 pub mod memory;
 pub mod notice;
@@ -29,4 +30,14 @@ pub fn cases(base: usize) -> usize {
 pub fn report(what: &str, compared: usize) {
     assert!(compared > 0, "{what}: nothing was compared");
     println!("{what}: {compared} cases");
+}
+
+/// Each of these answers was seen often enough, if `seen` has a number for each there can be.
+fn assert_each(what: &str, seen: &[usize], answers: &[usize], least: usize) {
+    for &answer in answers {
+        let seen = seen[answer];
+        assert!(seen >= least, "{what}: answer {answer}: {seen}");
+        report(&format!("{what}, answer {answer}"), seen);
+    }
+    report(what, seen.iter().sum());
 }

@@ -1,12 +1,12 @@
 //! The SFI calls of both implementations, on the same bytes.
 
-use crate::memory::Memory;
+use crate::assert_each;
+use crate::memory::{Lent, Shown};
 use crate::random::Random;
-use crate::report;
 use hoursquall::sfi::Choice;
 use hoursquall::{raw, Refusal};
 use reference::sfi::{self, Source, Table};
-use std::fmt::{Arguments, Debug, Display, Formatter, Result as Printed};
+use std::fmt::Arguments;
 
 /// One more than the highest answer.
 const ANSWERS: usize = 103;
@@ -52,7 +52,7 @@ impl Machine {
         assert_eq!(answer, expected.err().unwrap_or(0), "{call}");
         lent_signature.assert_number(call);
         lent_length.assert_number(call);
-        table.assert_unchanged(call);
+        table.assert_bytes(call);
         let wrapped = hoursquall::sfi::check(slice);
         assert_eq!(wrapped.map(|table| table.signature), signature, "{call}");
         assert_eq!(wrapped.map(|table| table.length), length, "{call}");
@@ -74,7 +74,7 @@ impl Machine {
         let call = format_args!("entry {k} of {}", Shown(slice));
         assert_eq!(answer, expected.err().unwrap_or(0), "{call}");
         offset.assert_number(call);
-        table.assert_unchanged(call);
+        table.assert_bytes(call);
         assert_eq!(hoursquall::sfi::entry(slice, k), expected, "{call}");
         self.entries[answer as usize] += 1;
         expected
@@ -94,7 +94,7 @@ impl Machine {
         let call = format_args!("search in {}", Shown(slice));
         assert_eq!(answer, expected.err().unwrap_or(0), "{call}");
         offset.assert_number(call);
-        memory.assert_unchanged(call);
+        memory.assert_bytes(call);
         assert_eq!(hoursquall::sfi::find_syst(slice), expected, "{call}");
         self.searches[answer as usize] += 1;
         expected
@@ -118,8 +118,8 @@ impl Machine {
         let call = format_args!("choice of {signature:#x}: {shown_board} or {shown_built_in}");
         assert_eq!(answer, choice_number(expected), "{call}");
         length.assert_number(call);
-        lent_board.assert_unchanged(call);
-        lent_built_in.assert_unchanged(call);
+        lent_board.assert_bytes(call);
+        lent_built_in.assert_bytes(call);
         let wrapped = hoursquall::sfi::choose(signature, board, built_in).map(choice);
         assert_eq!(wrapped, expected, "{call}");
         compare_chosen(signature, board, built_in, call);
@@ -149,21 +149,8 @@ impl Machine {
 
     /// Bytes that no call may change.
     fn bytes(&mut self, bytes: &[u8]) -> Lent<u8> {
-        let now = Memory::new(bytes, self.random.u8());
-        Lent {
-            after: now.clone(),
-            now,
-        }
+        Lent::new(bytes, bytes, self.random.u8())
     }
-}
-
-fn assert_each(what: &str, seen: &[usize; ANSWERS], answers: &[usize], least: usize) {
-    for &answer in answers {
-        let seen = seen[answer];
-        assert!(seen >= least, "{what}: answer {answer}: {seen}");
-        report(&format!("{what}, answer {answer}"), seen);
-    }
-    report(what, seen.iter().sum());
 }
 
 /// The C function's answer.
@@ -205,50 +192,4 @@ fn compare_chosen(signature: u32, board: &[u8], built_in: &[u8], call: Arguments
     assert_eq!(chosen, expected, "{call}");
     let same = chosen.is_empty() || chosen.as_ptr() == expected.as_ptr();
     assert!(same, "the part after {call}");
-}
-
-/// What a call is lent, and what that is to be afterwards.
-struct Lent<T> {
-    now: Memory<T>,
-    after: Memory<T>,
-}
-
-impl<T: Copy + PartialEq + Debug> Lent<T> {
-    /// One number, and what it is to be if it is to be changed.
-    fn number(before: T, after: Option<T>) -> Lent<T> {
-        let margin = before;
-        Lent {
-            now: Memory::new(&[before], margin),
-            after: Memory::new(&[after.unwrap_or(before)], margin),
-        }
-    }
-
-    fn pointer(&mut self) -> *mut T {
-        self.now.lent().as_mut_ptr()
-    }
-
-    fn slice(&mut self) -> (*const T, usize) {
-        let lent = self.now.lent();
-        (lent.as_ptr(), lent.len())
-    }
-
-    fn assert_number(&self, call: Arguments) {
-        assert_eq!(self.now, self.after, "{call}");
-    }
-
-    fn assert_unchanged(&self, call: Arguments) {
-        let unchanged = self.now == self.after;
-        assert!(unchanged, "the bytes after {call}");
-    }
-}
-
-/// Bytes in a message: how many, and the first of them.
-struct Shown<'a>(&'a [u8]);
-
-impl Display for Shown<'_> {
-    fn fmt(&self, formatter: &mut Formatter) -> Printed {
-        let Shown(bytes) = self;
-        let first = &bytes[..bytes.len().min(40)];
-        write!(formatter, "{} bytes {first:02x?}", bytes.len())
-    }
 }

@@ -1,8 +1,8 @@
 //! The UBIOS calls of both implementations, on one region.
 
+use crate::assert_each;
 use crate::memory::Memory;
 use crate::random::Random;
-use crate::report;
 use hoursquall::{raw, Refusal};
 use reference::ubios::{self, Body, Region, Root, Table};
 use std::fmt::Arguments;
@@ -51,15 +51,6 @@ impl Default for Seen {
     fn default() -> Seen {
         Seen::new()
     }
-}
-
-fn assert_each(what: &str, seen: &[usize; ANSWERS], answers: &[usize], least: usize) {
-    for &answer in answers {
-        let seen = seen[answer];
-        assert!(seen >= least, "{what}: answer {answer}: {seen}");
-        report(&format!("{what}, answer {answer}"), seen);
-    }
-    report(what, seen.iter().sum());
 }
 
 /// Both implementations, and the safe wrapper besides. Each call, and all that it was lent, is

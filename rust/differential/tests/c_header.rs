@@ -1,6 +1,6 @@
 //! The C header declares what the raw module declares: a comparison of the two texts.
 
-use hoursquall::sfi;
+use hoursquall::{framelog, sfi};
 
 const RAW: &str = include_str!("../../hoursquall/src/raw.rs");
 const HEADER: &str = include_str!("../../../include/hoursquall.h");
@@ -68,7 +68,7 @@ fn is_function(word: &str) -> bool {
 }
 
 /// Sizes, places of the header's words, answers, and refusals by their numbers in document 01.
-const CONSTANTS: [(&str, usize); 73] = [
+const CONSTANTS: [(&str, usize); 80] = [
     ("HS_HEADER_SIZE", hoursquall::HEADER_SIZE),
     ("HS_FRAME_MAX", hoursquall::FRAME_MAX),
     ("HS_PIECE_MAX", hoursquall::PIECE_MAX),
@@ -85,6 +85,9 @@ const CONSTANTS: [(&str, usize); 73] = [
     ("HS_SFI_HEADER_SIZE", sfi::HEADER_SIZE),
     ("HS_SFI_MAX", sfi::TABLE_MAX),
     ("HS_SFI_MEMORY_SIZE", sfi::MEMORY_SIZE),
+    ("HS_LOG_RECORD_SIZE", framelog::RECORD_SIZE),
+    ("HS_LOG_HEADER_SIZE", framelog::HEADER_SIZE),
+    ("HS_LOG_FRAME_MAX", framelog::FRAME_MAX),
     ("HS_HEADER_INDEX", 0),
     ("HS_HEADER_ID", 1),
     ("HS_HEADER_SENDER", 2),
@@ -142,6 +145,10 @@ const CONSTANTS: [(&str, usize); 73] = [
     ("HS_REFUSED_SFI_MEMORY", 46),
     ("HS_REFUSED_NO_SYST", 47),
     ("HS_REFUSED_NEITHER", 48),
+    ("HS_REFUSED_LOG_SIZE", 50),
+    ("HS_REFUSED_LOG_NOT_ZERO", 51),
+    ("HS_REFUSED_LOG_FRAME_LONG", 52),
+    ("HS_REFUSED_LOG_END", 53),
 ];
 
 /// Signatures, each the little-endian word of its letters.

@@ -1,5 +1,5 @@
-//! Message frames, their reassembly, the notice ring, UBIOS tables, SFI tables and table sums: safe
-//! wrappers over the proved static library.
+//! Message frames, their reassembly, the notice ring, UBIOS tables, SFI tables, the frame log and
+//! table sums: safe wrappers over the proved static library.
 //!
 //! ```
 //! use hoursquall::{count, data, parse, write, Envelope, FRAME_MAX};
@@ -18,6 +18,7 @@
 //! # Ok::<(), hoursquall::Refusal>(())
 //! ```
 
+pub mod framelog;
 mod notice;
 pub mod raw;
 mod reassembly;

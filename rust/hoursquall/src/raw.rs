@@ -103,4 +103,13 @@ extern "C" {
         built_in_len: usize,
         length: *mut usize,
     ) -> u32;
+
+    pub fn hs_log_read(record: *const u8, record_len: usize, frame_len: *mut usize) -> u32;
+
+    pub fn hs_log_write(
+        frame: *const u8,
+        frame_len: usize,
+        record: *mut u8,
+        record_len: usize,
+    ) -> u32;
 }

@@ -142,7 +142,7 @@ pub fn chosen<'a>(signature: u32, board: &'a [u8], built_in: &'a [u8]) -> &'a [u
     }
 }
 
-/// The library answers 1 for the board's table, 2 for the built-in one, or the number of a
+/// The library answers 101 for the board's table, 102 for the built-in one, or the number of a
 /// refusal.
 fn source(answer: u32) -> Result<Source, Refusal> {
     match answer {

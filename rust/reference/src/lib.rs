@@ -4,6 +4,7 @@
 //! definitions, and it prefers the obvious to the fast.
 
 pub mod frame;
+pub mod framelog;
 pub mod notice;
 pub mod reassembly;
 pub mod sfi;

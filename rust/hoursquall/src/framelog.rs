@@ -1,0 +1,47 @@
+//! The frame log: records of one size, each with one frame.
+//!
+//! ```
+//! use hoursquall::framelog::{self, RECORD_SIZE};
+//!
+//! let frames = [&b"first"[..], b"", b"third"];
+//! let mut log = [0; 3 * RECORD_SIZE];
+//! for (frame, record) in frames.iter().zip(log.chunks_exact_mut(RECORD_SIZE)) {
+//!     framelog::write(frame, record)?;
+//! }
+//! for (frame, record) in frames.iter().zip(log.chunks_exact(RECORD_SIZE)) {
+//!     assert_eq!(framelog::read(record)?, *frame);
+//! }
+//!
+//! // Behind a frame its record has zeros, and a log of three records is not one record.
+//! log[RECORD_SIZE - 1] = 1;
+//! assert_eq!(framelog::read(&log[..RECORD_SIZE]), Err(53));
+//! assert_eq!(framelog::read(&log), Err(50));
+//! # Ok::<(), hoursquall::Refusal>(())
+//! ```
+
+use crate::{accepted, raw, Refusal};
+
+/// Bytes of a record.
+pub const RECORD_SIZE: usize = 260;
+/// Bytes of a record's header.
+pub const HEADER_SIZE: usize = 4;
+/// Bytes that a record's frame has at most.
+pub const FRAME_MAX: usize = 256;
+
+/// The frame in a record. Whether it parses is not looked at. Refusals, in order: 50, 52, 51, 53.
+pub fn read(record: &[u8]) -> Result<&[u8], Refusal> {
+    let mut frame_len = 0;
+    // SAFETY: the pointer and the length are those of one slice, and `frame_len` is our own.
+    let answer = unsafe { raw::hs_log_read(record.as_ptr(), record.len(), &mut frame_len) };
+    accepted(answer).map(|()| &record[HEADER_SIZE..HEADER_SIZE + frame_len])
+}
+
+/// Writes the record of a frame over all of `record`, which is unchanged if it is refused.
+/// Refusals, in order: 50, 52.
+pub fn write(frame: &[u8], record: &mut [u8]) -> Result<(), Refusal> {
+    let (start, record_len) = (record.as_mut_ptr(), record.len());
+    // SAFETY: each pointer and length are those of one slice, and `record` is borrowed exclusively,
+    // so it overlaps no other.
+    let answer = unsafe { raw::hs_log_write(frame.as_ptr(), frame.len(), start, record_len) };
+    accepted(answer)
+}
