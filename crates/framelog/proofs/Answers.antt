@@ -2,16 +2,17 @@
 -- Assumes nothing.
 use Prim.Native.Nat.{ℕ, zero, suc, _+_, _-_, _≤_, _<_}
 use mathlib.Core.Bool.{true, false}
-use mathlib.Core.Path.{_≡_, refl, ap, ap₂, _∙_}
+use mathlib.Core.Path.{_≡_, refl, sym, ap, ap₂, _∙_}
 use mathlib.Core.List.{List, _∷_, _++_, append-nil, append-assoc}
 use borrow.Author.Tests.{lt-ltb, le-ltb, eq-eqb, ne-eqb}
 use native.Mathlib.Omega.{arith}
 use borrow.Rule.Slice.PartMut.{midOf, putMid}
 use lib.ListN.{length, take, drop, length-append, length-drop, length-replicate, drop-of-length-le}
-use lib.Seq.{take-append-add, drop-append-add, drop-drop}
-use Rattle.le.specs.Word.{bytes}
+use lib.Seq.{take-all, take-append-add, drop-append-add, drop-drop, getD-drop, length-take-le}
+use Rattle.le.specs.Word.{word, bytes, AreBytes}
 use Rattle.le.specs.Copy.{copied}
-use Rattle.le.proofs.Words.{length-bytes}
+use Rattle.le.proofs.Words.{length-bytes, word-same, word-within}
+use Rattle.le.proofs.Comparing.{equal-same, other-list, other-word, word-on}
 use Rattle.le.proofs.Parts.{copied-whole, copied-at}
 use Rattle.framelog.specs.Layout.{headerSize, frameMax, lengthOf, reservedOf, zeros, restOf, recordOf}
 use Rattle.framelog.specs.Helpers.{filled}
@@ -31,6 +32,56 @@ pub drop-zeros : (n m : ℕ) → drop n (zeros m) ≡ zeros (m - n)
 drop-zeros zero m = let all : m - 0 ≡ m = omega arith in rw all
 drop-zeros (suc n) zero = let none : 0 - suc n ≡ 0 = omega arith in rw none
 drop-zeros (suc n) (suc m) = let less : suc m - suc n ≡ m - n = omega arith in rw less (drop-zeros n m)
+
+-- their words are 0, and each of them is a byte
+word-zeros : (k n : ℕ) → word k (zeros n) ≡ 0
+unfolding word
+word-zeros zero n = refl
+word-zeros (suc k) zero = refl
+word-zeros (suc k) (suc n) = rw (word-zeros k n)
+
+zeros-are : (n : ℕ) → AreBytes (zeros n)
+zeros-are zero i = omega arith
+zeros-are (suc n) zero = omega arith
+zeros-are (suc n) (suc i) = zeros-are n i
+
+-- bytes are compared with as many zeros, a word at a time
+module _ (s : List ℕ) where
+  -- the bytes before a place are zero
+  abbrev pub ZeroTo : ℕ → Type 0
+  ZeroTo at = take at s ≡ take at (zeros (length s))
+
+  zero-word : (at : ℕ) → word 8 (drop at (zeros (length s))) ≡ 0
+  zero-word at = ap (word 8) (drop-zeros at (length s)) ∙ word-zeros 8 (length s - at)
+
+  pub zero-on : (at : ℕ) → AreBytes s → ZeroTo at → word 8 (drop at s) ≡ 0 → ZeroTo (at + 8)
+  zero-on at are so-far e = word-on s (zeros (length s)) at are (zeros-are (length s)) (sym (length-replicate (length s) 0)) so-far (e ∙ sym (zero-word at))
+
+  pub zero-all : (at : ℕ) → length s ≤ at → ZeroTo at → isZero s ≡ true
+  zero-all at short so-far =
+      let long : length (zeros (length s)) ≡ length s = length-replicate (length s) 0 in
+      equal-same s (zeros (length s)) (sym (take-all at s short) ∙ so-far ∙ take-all at (zeros (length s)) (omega arith))
+
+  pub zero-not : (at : ℕ) → (word 8 (drop at s) ≡ 0 → ⊥) → isZero s ≡ false
+  zero-not at ne = other-word s (zeros (length s)) at (λ e. ne (e ∙ zero-word at))
+
+-- the reserved bytes are zero where their word is
+module _ (r : List ℕ) (large : headerSize ≤ length r) where
+  two : length (reservedOf r) ≡ 2
+  two = length-take-le 2 (drop 2 r) (rw (length-drop 2 r) (omega arith))
+
+  pub reserved-not : (word 2 (drop 2 r) ≡ 0 → ⊥) → isZero (reservedOf r) ≡ false
+  reserved-not ne =
+      other-list (reservedOf r) (zeros (length (reservedOf r)))
+      (λ e. ne (sym (word-within 2 0 2 (drop 2 r) (omega arith) (rw (length-drop 2 r) (omega arith))) ∙ ap (word 2) e ∙ word-zeros 2 (length (reservedOf r))))
+
+  pub reserved-zero : AreBytes r → word 2 (drop 2 r) ≡ 0 → isZero (reservedOf r) ≡ true
+  reserved-zero are e =
+      let n = length (drop 2 r) in
+      let from : AreBytes (drop 2 r) = λ i. rw (getD-drop 2 r i 0) (are (2 + i)) in
+      let first : reservedOf r ≡ take 2 (zeros n) =
+      word-same 2 (drop 2 r) (zeros n) from (zeros-are n) (sym (length-replicate n 0)) (e ∙ sym (word-zeros 2 n)) in
+      equal-same (reservedOf r) (zeros (length (reservedOf r))) (first ∙ take-zeros 2 n (rw (length-drop 2 r) (omega arith)) ∙ ap zeros (sym two))
 
 -- 50, 52, 51, 53, and the frame
 module _ (size : ℕ) (r : List ℕ) where

@@ -1,27 +1,57 @@
--- `framelog::is_zero` meets its contract: the bytes are compared with as many zeros.
+-- `framelog::is_zero` meets its contract. The loop's invariant: the bytes up to `at` are zero.
 -- Assumes nothing.
-use mathlib.Core.Path.{ap, _∙_}
+use Prim.Native.Nat.{_-_}
+use mathlib.Core.Path.{refl, sym, _∙_}
+use native.Mathlib.Omega.{arith}
 use lib.ListN.{length}
-use Rattle.le.specs.Compare.{same}
-use Rattle.framelog.specs.Layout.{recordSize}
-use Rattle.framelog.proofs.Answers.{take-zeros}
+use Rattle.le.specs.Word.{AreBytes}
+use Rattle.framelog.proofs.Answers.{ZeroTo, zero-on, zero-all, zero-not}
 use borrow.Author.Needs.{needs}
 use Rattle.framelog.proofs.is_zero.Statement.{statement}
 use Rattle.framelog.proofs.is_zero.Tie as tie
 
-slice-aggregate-head : tie.Need-slice-aggregate-head
-slice-aggregate-head c = search needs
+abbrev Inv-loop : tie.InvT-loop
+Inv-loop s at₀ at = AreBytes s × ZeroTo s at
 
-head-requires : tie.Need-head-requires
-head-requires c κs = search needs
+abbrev μ-loop : tie.MeasureT-loop
+μ-loop s at₀ at = length s - at
 
-same-requires : tie.Need-same-requires
-same-requires c κs = search needs
+loop-holds : tie.Need-loop-holds Inv-loop μ-loop
+loop-holds c = (λ i. omega (arith, c .shared-slice-known .given i), refl)
 
-returns : tie.Need-returns
+u64-at-requires : tie.Need-u64-at-requires Inv-loop μ-loop
+u64-at-requires c κs = search needs
+
+returns : tie.Need-returns Inv-loop μ-loop
 returns c =
-    let s = c .before .before .before .before .args .s .now in
-    c .same .ensures ∙ ap (same s) (c .before .head .ensures ∙ take-zeros (length s) recordSize (c .before .before .before .before .pre))
+    let at-loop = c .before .before .before in
+    sym (zero-not (at-loop .before .before .args .s .now) (at-loop .loop .at) (λ e. c .if1 .taken (c .before .u64-at .ensures ∙ e)))
+
+add-at : tie.Need-add-at Inv-loop μ-loop
+add-at c = search needs
+
+loop-less : tie.Need-loop-less Inv-loop μ-loop
+loop-less c = search needs
+
+loop-again : tie.Need-loop-again Inv-loop μ-loop
+loop-again c =
+    let at-loop = c .before .before .before in
+    let inv = at-loop .loop .inv in
+    (inv .0, zero-on (at-loop .before .before .args .s .now) (at-loop .loop .at) (inv .0) (inv .1) (sym (c .before .u64-at .ensures) ∙ c .if1 .left))
+
+returns-2 : tie.Need-returns-2 Inv-loop μ-loop
+returns-2 c = let at-loop = c .before in sym (zero-all (at-loop .before .before .args .s .now) (at-loop .loop .at) (search needs) (at-loop .loop .inv .1))
 
 pub is-zero-spec : {M : Type 1} → statement M
-is-zero-spec = tie.close (tie.spec slice-aggregate-head head-requires same-requires returns)
+is-zero-spec =
+    tie.close
+    (tie.spec
+    Inv-loop
+    μ-loop
+    loop-holds
+    u64-at-requires
+    returns
+    add-at
+    loop-less
+    loop-again
+    returns-2)
