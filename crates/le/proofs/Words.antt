@@ -1,5 +1,6 @@
 -- The laws of little-endian words, each once, for every width.
 --     word-places    a word is its bytes, each by the weight of its place
+--     word-split     a word in two parts
 --     word-append    a word within the first of two joined lists
 --     word-within    a word within the first bytes of a list
 --     word-one       a word of one byte is the byte
@@ -14,7 +15,7 @@
 use Prim.Native.Nat.{ℕ, zero, suc, _+_, _*_, _/_, _%_, _^_, _≤_, _<_}
 use mathlib.Core.Path.{_≡_, refl, sym, ap, ap₂, _∙_}
 use mathlib.Core.List.{List, [], _∷_, _++_, append-nil}
-use native.Mathlib.Nat.{mul-assoc, mul-comm, add-mul, add-zero}
+use native.Mathlib.Nat.{mul-assoc, mul-comm, add-mul, add-zero, pow-succ'}
 use native.Mathlib.Omega.{arith}
 use lib.ListN.{length, take, drop, getD, length-drop, take-append-drop}
 use lib.Seq.{getD-drop, length-take-le, drop-append-le}
@@ -40,6 +41,21 @@ weighed (suc k) p (b ∷ s) =
 
 pub word-places : (k : ℕ) (s : List ℕ) → word k s ≡ places k 1 (λ i. getD s i 0)
 word-places k s = rw (← weighed k 1 s) (omega arith)
+
+pub word-split : (j k : ℕ) (s : List ℕ) → word (j + k) s ≡ word j s + 256 ^ j * word k (drop j s)
+unfolding word
+word-split zero k s =
+    let width : 0 + k ≡ k = omega arith in
+    let all : word k (drop 0 s) ≡ word k s = refl in
+    rw width (omega (arith, all))
+word-split (suc j) k [] =
+    let width : suc j + k ≡ suc (j + k) = omega arith in
+    rw (width, word-nil k) (omega arith)
+word-split (suc j) k (b ∷ s) =
+    let width : suc j + k ≡ suc (j + k) = omega arith in
+    let rest = word k (drop j s) in
+    let weight : 256 ^ suc j * rest ≡ 256 * (256 ^ j * rest) = rw (pow-succ' 256 j, mul-assoc 256 (256 ^ j) rest) in
+    rw (width, weight, word-split j k s) (omega arith)
 
 pub word-append : (k : ℕ) (s t : List ℕ) → k ≤ length s → word k (s ++ t) ≡ word k s
 unfolding word

@@ -30,19 +30,6 @@ fn first_u32(s: &[u8]) -> u32
         + byte(s, 3) as u32 * 0x100_0000
 }
 
-fn first_u64(s: &[u8]) -> u64
-    ensures { λ r. ⌜ r ≡ word 8 (now (s .entry)) ⌝ }
-{
-    byte(s, 0) as u64
-        + byte(s, 1) as u64 * 0x100
-        + byte(s, 2) as u64 * 0x1_0000
-        + byte(s, 3) as u64 * 0x100_0000
-        + byte(s, 4) as u64 * 0x1_0000_0000
-        + byte(s, 5) as u64 * 0x100_0000_0000
-        + byte(s, 6) as u64 * 0x1_0000_0000_0000
-        + byte(s, 7) as u64 * 0x100_0000_0000_0000
-}
-
 // A byte that the slice has, and the word of eight of them: nothing is compared, so it is a single load.
 fn byte_in(s: &[u8], i: usize) -> u8
     requires { ⌜ i < length (now s) ⌝ }
@@ -84,6 +71,13 @@ pub fn u32_at(s: &[u8], at: usize) -> u32
     first_u32(tail(s, at))
 }
 
+// In two halves, which need not be a single load: a slice of eight bytes or more is read as a whole.
+fn short_u64(s: &[u8]) -> u64
+    ensures { λ r. ⌜ r ≡ word 8 (now (s .entry)) ⌝ }
+{
+    u32_at(s, 0) as u64 + u32_at(s, 4) as u64 * 0x1_0000_0000
+}
+
 pub fn u64_at(s: &[u8], at: usize) -> u64
     ensures { λ r. ⌜ r ≡ word 8 (drop at (now (s .entry))) ⌝ }
 {
@@ -91,7 +85,7 @@ pub fn u64_at(s: &[u8], at: usize) -> u64
     if 8 <= rest.len() {
         whole_u64(rest)
     } else {
-        first_u64(rest)
+        short_u64(rest)
     }
 }
 
