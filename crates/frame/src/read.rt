@@ -5,9 +5,13 @@ ghost use Rattle.frame.specs.Reading.{parsed, dataOf, numberOf};
 
 // Why a frame is refused.
 pub enum Reason {
+    // 1: under 24 bytes.
     FrameShort,
+    // 2: over 256 bytes.
     FrameLong,
+    // 3: byte 0 is not 0x11.
     WrongType,
+    // 4: Receiver ID is not ours.
     OtherReceiver,
 }
 

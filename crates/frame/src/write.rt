@@ -10,9 +10,13 @@ ghost use Rattle.frame.specs.Writing.{counted, numberOf, pieceOf, frameA
 
 // Why a count or a frame is refused.
 pub enum Reason {
+    // 10: message over 4,096 bytes.
     MessageLong,
+    // 12: piece size 0 or over 232.
     PieceSize,
+    // 13: no frame of that Index.
     NoFrame,
+    // 14: output shorter than the frame.
     OutputShort,
 }
 

@@ -31,9 +31,9 @@ pub enum Written {
 }
 
 pub const RECORD_SIZE: usize = 260;
-
+// What stands before the frame: its length, and two zero bytes.
 pub const HEADER_SIZE: usize = 4;
-
+// The longest frame.
 pub const FRAME_MAX: usize = 256;
 
 impl Reason {

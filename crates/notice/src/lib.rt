@@ -46,6 +46,10 @@ pub enum Taken {
 pub const HEADER_SIZE: usize = 8;
 // The longest data.
 pub const DATA_MAX: usize = 1024;
+// The smallest and the largest capacity. Each capacity is a multiple of 8.
+pub const RING_MIN: usize = 16;
+
+pub const RING_MAX: usize = 65536;
 
 impl Reason {
     // The refusal's number.
@@ -63,13 +67,14 @@ impl Reason {
     }
 }
 
+// Whether a ring of capacity c, or a position in it, is not legal.
 fn is_bad(c: usize, at: Positions) -> bool
     ensures { λ r. ⌜ r ≡ badRing c at ⌝ }
 {
-    if c < 16 {
+    if c < RING_MIN {
         return true;
     }
-    if 65536 < c {
+    if RING_MAX < c {
         return true;
     }
     if c % 8 != 0 {
@@ -123,6 +128,7 @@ fn get_round(ring: &[u8], at: usize, out: &mut [u8])
     }
 }
 
+// What stands before a notice's data.
 fn header(id: u32, n: u32) -> [u8; 8]
     ensures { λ r. ⌜ r ≡ bytes 4 id ++ bytes 4 n ⌝ }
 {
