@@ -1,5 +1,5 @@
 .DEFAULT_GOAL := help
-.PHONY: help test demo bench
+.PHONY: help test demo vectors examples bench times
 
 MAKEFLAGS += --no-print-directory
 
@@ -10,9 +10,12 @@ unexport HOURSQUALL_LIB
 quietly = @said=$$($(1) 2>&1) || { printf '%s\n' "$$said"; exit 1; }
 
 help:
-	@echo 'make test   the gate: layout, lints, proofs, must-fail edits, programs, Rust tests'
-	@echo 'make demo   prove the demonstration and run it'
-	@echo 'make bench  time the library beside plain Rust'
+	@echo 'make test      the gate: layout, documents, lints, proofs, must-fail edits, programs, examples, Rust tests'
+	@echo 'make demo      prove the demonstration and run it'
+	@echo 'make vectors   prove the numbers to check by and run them'
+	@echo 'make examples  link the library from C and from Rust, and run both'
+	@echo 'make bench     time the library beside plain Rust'
+	@echo 'make times     the gate, and docs/TIMES.md from what it printed'
 
 test:
 	@scripts/test.sh
@@ -21,6 +24,18 @@ demo:
 	$(call quietly,rt check demo)
 	@cd crates/demo/data && ../../../target/bin/demo
 
+vectors:
+	$(call quietly,rt check vectors)
+	@target/bin/vectors
+
+examples:
+	$(call quietly,rt staticlib hoursquall)
+	@scripts/examples.sh c
+	@scripts/examples.sh rust
+
 bench:
 	$(call quietly,rt staticlib hoursquall)
 	@cd rust && cargo run --release --offline --quiet -p bench
+
+times:
+	@scripts/times.sh

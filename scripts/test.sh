@@ -1,6 +1,7 @@
 #!/usr/bin/env bash
-# The gate: layout, lints, proofs, must-fail edits, programs, and the Rust tests over the static
-# library. Its last line is 'N passed, M failed', over all of them; it exits 0 only if M is 0.
+# The gate: layout, documents, lints, proofs, must-fail edits, programs, and the examples and the
+# Rust tests over the static library. Its last line is 'N passed, M failed', over all of them; it exits 0 only
+# if M is 0.
 set -u
 exec 2>&1 # one stream, so that the tally comes last
 cd "$(dirname "$0")/.." || exit 1
@@ -60,7 +61,9 @@ many() { # STATUS PASSED FAILED
     fail "$bad"
 }
 
-in_rust() { (cd rust && "$@"); }
+within() { # FOLDER COMMAND...
+    (cd "$1" && "${@:2}")
+}
 
 # Anything that it prints names a file that is not in the layout.
 rt_fmt() {
@@ -71,10 +74,11 @@ rt_fmt() {
     [ "$status" -eq 0 ] && [ -z "$said" ]
 }
 
-# Runs a component of cargo that an installation may lack.
+# Runs a component of cargo that an installation may lack, on all Rust code.
 component() { # NAME WORDS...
     if cargo "$1" --version >/dev/null 2>&1; then
-        one in_rust cargo "$@"
+        one within rust cargo "$@"
+        one within examples/rust cargo "$@"
     else
         printf 'skipped: cargo %s is not installed\n' "$1"
     fi
@@ -91,9 +95,14 @@ rt_ci() {
     fi
 }
 
+examples() {
+    one scripts/examples.sh c
+    one scripts/examples.sh rust
+}
+
 cargo_test() {
     local status sums
-    in_rust cargo test --release --offline --no-fail-fast -- --nocapture 2>&1 | tee "$log"
+    within rust cargo test --release --offline --no-fail-fast -- --nocapture 2>&1 | tee "$log"
     status=${PIPESTATUS[0]}
     sums=$(sed -n 's/^test result: .* \([0-9]*\) passed; \([0-9]*\) failed;.*/\1 \2/p' "$log" |
         awk '{ passed += $1; failed += $2 } END { print passed + 0, failed + 0 }')
@@ -102,16 +111,19 @@ cargo_test() {
 
 need rt
 need cargo
+need cc
 log=$(mktemp) || exit 1
 trap 'rm -f "$log"' EXIT
 
 part 'rt fmt' one rt_fmt
+part 'documents' one scripts/documents.sh
 part 'cargo fmt' component fmt --check
 part 'cargo clippy' component clippy --release --offline --all-targets -- -D warnings
 part 'rt ci' rt_ci
 if part 'rt staticlib' one rt staticlib hoursquall; then
+    part 'examples' examples
     part 'cargo test' cargo_test
 else
-    printf 'cargo test is not run: there is no library to link\n'
+    printf 'the examples and cargo test are not run: there is no library to link\n'
 fi
 finish

@@ -1,9 +1,9 @@
 //! Times the library beside plain Rust with the same meaning, and prints a Markdown table.
 
 mod baseline;
-mod library;
 mod timing;
 
+use hoursquall::calls as library;
 use std::hint::black_box;
 use timing::{print_head, print_row};
 

@@ -19,7 +19,7 @@
 //! # Ok::<(), hoursquall::Refusal>(())
 //! ```
 
-use crate::{accepted, raw, Refusal};
+use crate::{accepted, calls, Refusal};
 
 /// Bytes of a record.
 pub const RECORD_SIZE: usize = 260;
@@ -31,17 +31,12 @@ pub const FRAME_MAX: usize = 256;
 /// The frame in a record. Whether it parses is not looked at. Refusals, in order: 50, 52, 51, 53.
 pub fn read(record: &[u8]) -> Result<&[u8], Refusal> {
     let mut frame_len = 0;
-    // SAFETY: the pointer and the length are those of one slice, and `frame_len` is our own.
-    let answer = unsafe { raw::hs_log_read(record.as_ptr(), record.len(), &mut frame_len) };
+    let answer = calls::log_read(record, &mut frame_len);
     accepted(answer).map(|()| &record[HEADER_SIZE..HEADER_SIZE + frame_len])
 }
 
 /// Writes the record of a frame over all of `record`, which is unchanged if it is refused.
 /// Refusals, in order: 50, 52.
 pub fn write(frame: &[u8], record: &mut [u8]) -> Result<(), Refusal> {
-    let (start, record_len) = (record.as_mut_ptr(), record.len());
-    // SAFETY: each pointer and length are those of one slice, and `record` is borrowed exclusively,
-    // so it overlaps no other.
-    let answer = unsafe { raw::hs_log_write(frame.as_ptr(), frame.len(), start, record_len) };
-    accepted(answer)
+    accepted(calls::log_write(frame, record))
 }

@@ -18,6 +18,7 @@
 //! # Ok::<(), hoursquall::Refusal>(())
 //! ```
 
+pub mod calls;
 pub mod framelog;
 mod notice;
 pub mod raw;
@@ -91,22 +92,19 @@ pub struct Envelope {
 
 /// The bytes added up modulo 2^8, the sum of SFI tables.
 pub fn sum8(bytes: &[u8]) -> u8 {
-    // SAFETY: the pointer and the length are those of one slice.
-    unsafe { raw::hs_sum8(bytes.as_ptr(), bytes.len()) }
+    calls::sum8(bytes)
 }
 
 /// The little-endian 32-bit words added up modulo 2^32, the sum of UBIOS tables; a short last word
 /// is filled with zeros at the high end.
 pub fn sum32(bytes: &[u8]) -> u32 {
-    // SAFETY: the pointer and the length are those of one slice.
-    unsafe { raw::hs_sum32(bytes.as_ptr(), bytes.len()) }
+    calls::sum32(bytes)
 }
 
 /// Reads the header of a frame for receiver `us`. Refusals, in order: 1 to 4.
 pub fn parse(frame: &[u8], us: u32) -> Result<Header, Refusal> {
     let mut words = [0; 6];
-    // SAFETY: the pointer and the length are those of one slice, and `words` is our own.
-    let answer = unsafe { raw::hs_frame_parse(frame.as_ptr(), frame.len(), us, &mut words) };
+    let answer = calls::parse(frame, us, &mut words);
     let [index, id, sender, receiver, status, total] = words;
     accepted(answer).map(|()| Header {
         index,
@@ -126,8 +124,7 @@ pub fn data(frame: &[u8]) -> &[u8] {
 /// How many frames a message of `length` bytes takes: at least 1. Refusals, in order: 10, 12.
 pub fn count(length: usize, piece_size: usize) -> Result<usize, Refusal> {
     let mut frames = 0;
-    // SAFETY: `frames` is our own.
-    let answer = unsafe { raw::hs_frame_count(length, piece_size, &mut frames) };
+    let answer = calls::count(length, piece_size, &mut frames);
     accepted(answer).map(|()| frames)
 }
 
@@ -142,23 +139,17 @@ pub fn write(
     out: &mut [u8],
 ) -> Result<usize, Refusal> {
     let mut frame_len = 0;
-    // SAFETY: each pointer and length are those of one slice, `out` is borrowed exclusively, so it
-    // overlaps no other, and `frame_len` is our own.
-    let answer = unsafe {
-        raw::hs_frame_write(
-            envelope.id,
-            envelope.sender,
-            envelope.status,
-            envelope.receiver,
-            message.as_ptr(),
-            message.len(),
-            piece_size,
-            index,
-            out.as_mut_ptr(),
-            out.len(),
-            &mut frame_len,
-        )
-    };
+    let answer = calls::write(
+        envelope.id,
+        envelope.sender,
+        envelope.status,
+        envelope.receiver,
+        message,
+        piece_size,
+        index,
+        out,
+        &mut frame_len,
+    );
     accepted(answer).map(|()| frame_len)
 }
 

@@ -1,6 +1,6 @@
 //! Notices that wait in a ring.
 
-use crate::{accepted, raw, Refusal};
+use crate::{accepted, calls, Refusal};
 
 /// Where the next notice is taken from a ring, and where the next one is posted: offsets below the
 /// ring's length. Equal positions mean an empty ring.
@@ -52,18 +52,7 @@ impl Positions {
     /// if it is refused. Refusals, in order: 20, 24, 25.
     pub fn post(&mut self, ring: &mut [u8], id: u32, data: &[u8]) -> Result<(), Refusal> {
         let mut positions = [self.read, self.write];
-        // SAFETY: each pointer and length are those of one slice, `ring` is borrowed exclusively,
-        // so it overlaps no other, and `positions` is our own.
-        let answer = unsafe {
-            raw::hs_notice_post(
-                ring.as_mut_ptr(),
-                ring.len(),
-                &mut positions,
-                id,
-                data.as_ptr(),
-                data.len(),
-            )
-        };
+        let answer = calls::post(ring, &mut positions, id, data);
         [self.read, self.write] = positions;
         accepted(answer)
     }
@@ -73,19 +62,7 @@ impl Positions {
     pub fn take(&mut self, ring: &[u8], out: &mut [u8]) -> Result<Notice, Refusal> {
         let mut positions = [self.read, self.write];
         let (mut id, mut length) = (0, 0);
-        // SAFETY: each pointer and length are those of one slice, `out` is borrowed exclusively,
-        // so it overlaps no other, and `positions`, `id` and `length` are our own.
-        let answer = unsafe {
-            raw::hs_notice_take(
-                ring.as_ptr(),
-                ring.len(),
-                &mut positions,
-                out.as_mut_ptr(),
-                out.len(),
-                &mut id,
-                &mut length,
-            )
-        };
+        let answer = calls::take(ring, &mut positions, out, &mut id, &mut length);
         [self.read, self.write] = positions;
         accepted(answer).map(|()| Notice { id, length })
     }

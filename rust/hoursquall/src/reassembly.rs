@@ -1,6 +1,6 @@
 //! Frames put together to messages.
 
-use crate::{raw, Refusal};
+use crate::{calls, Refusal};
 
 /// The state of a reassembly between two frames: fresh, or a message is open.
 ///
@@ -64,19 +64,7 @@ impl Reassembly {
     /// the buffer, and only 1 to 4 keep an open message.
     pub fn step(&mut self, frame: &[u8], us: u32, buffer: &mut [u8]) -> Verdict {
         let mut words = [0; 4];
-        // SAFETY: each pointer and length are those of one slice, `buffer` and the state are
-        // borrowed exclusively, so they overlap no other, and `words` is our own.
-        let answer = unsafe {
-            raw::hs_reassembly_step(
-                &mut self.numbers,
-                frame.as_ptr(),
-                frame.len(),
-                us,
-                buffer.as_mut_ptr(),
-                buffer.len(),
-                &mut words,
-            )
-        };
+        let answer = calls::step(&mut self.numbers, frame, us, buffer, &mut words);
         verdict(answer, words)
     }
 

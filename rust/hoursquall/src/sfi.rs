@@ -27,7 +27,7 @@
 //! # Ok::<(), hoursquall::Refusal>(())
 //! ```
 
-use crate::{accepted, raw, Refusal};
+use crate::{accepted, calls, Refusal};
 
 /// Bytes of a table's header.
 pub const HEADER_SIZE: usize = 24;
@@ -90,17 +90,14 @@ pub struct Choice {
 /// 42, 44, 43, 41.
 pub fn check(table: &[u8]) -> Result<Table, Refusal> {
     let (mut signature, mut length) = (0, 0);
-    let (start, table_len) = (table.as_ptr(), table.len());
-    // SAFETY: the pointer and `table_len` are those of one slice, and what is written is our own.
-    let answer = unsafe { raw::hs_sfi_check(start, table_len, &mut signature, &mut length) };
+    let answer = calls::sfi_check(table, &mut signature, &mut length);
     accepted(answer).map(|()| Table { signature, length })
 }
 
 /// The offset of a table's entry `k`, counted from 0. Refusals, in order: 40, 42, 44, 43, 41, 45.
 pub fn entry(table: &[u8], k: usize) -> Result<usize, Refusal> {
     let mut offset = 0;
-    // SAFETY: the pointer and the length are those of one slice, and `offset` is our own.
-    let answer = unsafe { raw::hs_sfi_entry(table.as_ptr(), table.len(), k, &mut offset) };
+    let answer = calls::sfi_entry(table, k, &mut offset);
     accepted(answer).map(|()| offset)
 }
 
@@ -108,8 +105,7 @@ pub fn entry(table: &[u8], k: usize) -> Result<usize, Refusal> {
 /// passes inside one page of 4,096 bytes. Refusals, in order: 46, 47.
 pub fn find_syst(memory: &[u8]) -> Result<usize, Refusal> {
     let mut offset = 0;
-    // SAFETY: the pointer and the length are those of one slice, and `offset` is our own.
-    let answer = unsafe { raw::hs_sfi_find_syst(memory.as_ptr(), memory.len(), &mut offset) };
+    let answer = calls::find_syst(memory, &mut offset);
     accepted(answer).map(|()| offset)
 }
 
@@ -117,17 +113,7 @@ pub fn find_syst(memory: &[u8]) -> Result<usize, Refusal> {
 /// Refusals, in order: 42, 48.
 pub fn choose(signature: u32, board: &[u8], built_in: &[u8]) -> Result<Choice, Refusal> {
     let mut length = 0;
-    // SAFETY: each pointer and length are those of one slice, and `length` is our own.
-    let answer = unsafe {
-        raw::hs_sfi_choose(
-            signature,
-            board.as_ptr(),
-            board.len(),
-            built_in.as_ptr(),
-            built_in.len(),
-            &mut length,
-        )
-    };
+    let answer = calls::sfi_choose(signature, board, built_in, &mut length);
     source(answer).map(|source| Choice { source, length })
 }
 

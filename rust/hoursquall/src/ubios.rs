@@ -1,6 +1,6 @@
 //! UBIOS tables in memory, and the root that leads to them.
 
-use crate::{accepted, raw, Refusal};
+use crate::{accepted, calls, Refusal};
 
 /// Memory: bytes, and the address of the first of them.
 ///
@@ -77,9 +77,7 @@ impl Region<'_> {
     /// Checks the table at an address. Refusals, in order: 31, 30, 32, 33, 34.
     pub fn check_table(&self, address: u64) -> Result<Table, Refusal> {
         let mut part = [0; 2];
-        let (start, length) = (self.bytes.as_ptr(), self.bytes.len());
-        // SAFETY: the pointer and the length are those of one slice, and `part` is our own.
-        let answer = unsafe { raw::hs_ubios_table(start, length, self.base, address, &mut part) };
+        let answer = calls::table(self.bytes, self.base, address, &mut part);
         let [offset, used] = part;
         accepted(answer).map(|()| Table { offset, used })
     }
@@ -87,9 +85,7 @@ impl Region<'_> {
     /// Checks the root at an address. Refusals, in order: 31, 30, 32 to 36.
     pub fn check_root(&self, address: u64) -> Result<Root, Refusal> {
         let mut root = [0; 3];
-        let (start, length) = (self.bytes.as_ptr(), self.bytes.len());
-        // SAFETY: the pointer and the length are those of one slice, and `root` is our own.
-        let answer = unsafe { raw::hs_ubios_root(start, length, self.base, address, &mut root) };
+        let answer = calls::root(self.bytes, self.base, address, &mut root);
         let [offset, used, count] = root;
         accepted(answer).map(|()| Root {
             offset,
@@ -102,18 +98,7 @@ impl Region<'_> {
     /// table fails its checks counts as none. Refusals, in order: 39, 31, 30, 32 to 36, 38, 37.
     pub fn find(&self, root: u64, name: &[u8]) -> Result<Body, Refusal> {
         let mut body = [0; 3];
-        // SAFETY: each pointer and length are those of one slice, and `body` is our own.
-        let answer = unsafe {
-            raw::hs_ubios_find(
-                self.bytes.as_ptr(),
-                self.bytes.len(),
-                self.base,
-                root,
-                name.as_ptr(),
-                name.len(),
-                &mut body,
-            )
-        };
+        let answer = calls::find(self.bytes, self.base, root, name, &mut body);
         let [slot, offset, length] = body;
         accepted(answer).map(|()| Body {
             slot,

@@ -1,6 +1,7 @@
-//! The library with the signatures of `baseline`, and nothing between them and the C functions.
+//! The C functions with slices and references for pointers, which makes them safe to call. What
+//! each answers is in `include/hoursquall.h`; the crate's other functions say it in Rust's types.
 
-use hoursquall::raw;
+use crate::raw;
 
 #[inline(always)]
 pub fn sum8(bytes: &[u8]) -> u8 {
@@ -127,6 +128,12 @@ pub fn table(region: &[u8], base: u64, address: u64, part: &mut [usize; 2]) -> u
 }
 
 #[inline(always)]
+pub fn root(region: &[u8], base: u64, address: u64, root: &mut [usize; 3]) -> u32 {
+    // SAFETY: the pointer and the length are those of one slice; `root` is borrowed exclusively.
+    unsafe { raw::hs_ubios_root(region.as_ptr(), region.len(), base, address, root) }
+}
+
+#[inline(always)]
 pub fn find(region: &[u8], base: u64, root: u64, name: &[u8], body: &mut [usize; 3]) -> u32 {
     // SAFETY: each pointer and length are those of one slice; `body` is borrowed exclusively.
     unsafe {
@@ -150,9 +157,30 @@ pub fn sfi_check(table: &[u8], signature: &mut u32, length: &mut usize) -> u32 {
 }
 
 #[inline(always)]
+pub fn sfi_entry(table: &[u8], k: usize, offset: &mut usize) -> u32 {
+    // SAFETY: the pointer and the length are those of one slice; `offset` is borrowed exclusively.
+    unsafe { raw::hs_sfi_entry(table.as_ptr(), table.len(), k, offset) }
+}
+
+#[inline(always)]
 pub fn find_syst(memory: &[u8], offset: &mut usize) -> u32 {
     // SAFETY: the pointer and the length are those of one slice; `offset` is borrowed exclusively.
     unsafe { raw::hs_sfi_find_syst(memory.as_ptr(), memory.len(), offset) }
+}
+
+#[inline(always)]
+pub fn sfi_choose(signature: u32, board: &[u8], built_in: &[u8], length: &mut usize) -> u32 {
+    // SAFETY: each pointer and length are those of one slice; `length` is borrowed exclusively.
+    unsafe {
+        raw::hs_sfi_choose(
+            signature,
+            board.as_ptr(),
+            board.len(),
+            built_in.as_ptr(),
+            built_in.len(),
+            length,
+        )
+    }
 }
 
 #[inline(always)]

@@ -1,0 +1,154 @@
+// Reassembly: a whole message, and then each thing that can go wrong.
+use crate::frames;
+use crate::frames::OTHER_RECEIVER;
+use crate::frames::RECEIVER;
+use crate::frames::STATUS;
+use frame::Header;
+use frame::Words;
+use reassembly::Progress;
+use reassembly::State;
+use reassembly::Verdict;
+
+fn say_message(words: Words, message: &[u8]) {
+    let said = [words.id as u64, words.sender as u64, words.status as u64];
+    report::pattern(b": delivered, message #, sender %, word #, data", &said);
+    report::bytes(message);
+}
+
+fn say_verdict(verdict: Verdict, buffer: &[u8]) {
+    match verdict {
+        Verdict::More => report::text(b": more wanted"),
+        Verdict::Delivered(words, n) => say_message(words, le::head(buffer, n)),
+        Verdict::Refused(reason) => report::refusal(reason.number()),
+    }
+}
+
+fn say_open(open: Progress) {
+    let words = open.words;
+    let said = [open.next as u64, open.filled as u64, words.total as u64];
+    report::pattern(b"; index % is next, % of % bytes", &said);
+}
+
+fn say_state(state: State) {
+    match state {
+        State::Fresh => report::text(b"; fresh"),
+        State::Open(open) => say_open(open),
+    }
+}
+
+fn receive(what: &[u8], state: State, frame: &[u8], buffer: &mut [u8]) -> State {
+    report::start_line(what);
+    let answer = reassembly::step(state, frame, RECEIVER, buffer);
+    let verdict = answer.verdict;
+    let after = answer.state;
+    say_verdict(verdict, buffer);
+    say_state(after);
+    after
+}
+
+// The frame with that Index of a message, cut or filled up with zeros to a length.
+fn send(
+    what: &[u8],
+    state: State,
+    message: &[u8],
+    index: usize,
+    length: usize,
+    buffer: &mut [u8],
+) -> State {
+    let mut out = [0u8; 257];
+    frames::lay(RECEIVER, STATUS, message, index, &mut out);
+    receive(what, state, le::head(&out, length), buffer)
+}
+
+// The frame with Index 1, with that byte 0, Receiver ID and status word.
+fn send_other(
+    what: &[u8],
+    state: State,
+    message: &[u8],
+    byte_0: u8,
+    receiver: u32,
+    status: u32,
+    buffer: &mut [u8],
+) -> State {
+    let mut out = [0u8; 26];
+    frames::lay(receiver, status, message, 1, &mut out);
+    out[0] = byte_0;
+    receive(what, state, &out, buffer)
+}
+
+// A whole message, and then one that loses its second frame, which comes too late.
+fn run_loss(five: &[u8]) {
+    let mut buf = [0u8; 8];
+    let first = send(b"index 0", State::Fresh, five, 0, 26, &mut buf);
+    let second = send(b"index 1", first, five, 1, 26, &mut buf);
+    let third = send(b"index 2", second, five, 2, 25, &mut buf);
+    let again = send(b"index 0", third, five, 0, 26, &mut buf);
+    let lost = send(b"index 2, index 1 lost", again, five, 2, 25, &mut buf);
+    send(b"index 1, nothing open", lost, five, 1, 26, &mut buf);
+}
+
+// Frames that leave a message open, and one that does not.
+fn run_open(five: &[u8]) {
+    let mut buf = [0u8; 8];
+    let first = send(b"index 0", State::Fresh, five, 0, 26, &mut buf);
+    let cut = send(b"index 1, its first 23 bytes", first, five, 1, 23, &mut buf);
+    let long = send(b"index 1 and more, 257 bytes", cut, five, 1, 257, &mut buf);
+    let typed = send_other(
+        b"index 1, byte 0 is 0x12",
+        long,
+        five,
+        0x12,
+        RECEIVER,
+        STATUS,
+        &mut buf,
+    );
+    let other = send_other(
+        b"index 1, for receiver 12",
+        typed,
+        five,
+        Header::TYPE_VERSION,
+        OTHER_RECEIVER,
+        STATUS,
+        &mut buf,
+    );
+    send_other(
+        b"index 1, word 0x00000000",
+        other,
+        five,
+        Header::TYPE_VERSION,
+        RECEIVER,
+        0,
+        &mut buf,
+    );
+}
+
+// An open state for which no frame can have come.
+fn no_state() -> State {
+    State::Open(Progress {
+        words: Words {
+            id: 0x0102_0304,
+            sender: 10,
+            status: STATUS,
+            total: 5,
+        },
+        next: 0,
+        filled: 0,
+    })
+}
+
+// First frames that begin nothing.
+fn run_first(five: &[u8], nine: &[u8]) {
+    let mut buf = [0u8; 8];
+    let long = send(b"index 0 of 9 bytes", State::Fresh, nine, 0, 26, &mut buf);
+    let bare = send(b"index 0, without its data", long, five, 0, 24, &mut buf);
+    send(b"index 0, 6 bytes of data", bare, five, 0, 30, &mut buf);
+    send(b"index 0, from next 0", no_state(), five, 0, 26, &mut buf);
+}
+
+pub(crate) fn run(bytes: &[u8]) {
+    report::text(b"\nReassembly of these 5 bytes in pieces of 2, for receiver 11, buffer of 8");
+    let five = le::head(bytes, 5);
+    run_loss(five);
+    run_open(five);
+    run_first(five, le::head(bytes, 9));
+}
