@@ -13,15 +13,15 @@ use Rattle.le.specs.Word.{bytes}
 use Rattle.le.proofs.Words.{word-bytes, bytes-word, length-bytes}
 use Rattle.le.proofs.Comparing.{same-true, equal-same}
 use Rattle.le.proofs.Tests.{apart}
-use Rattle.framelog.specs.Layout.{headerSize, frameMax, lengthOf, reservedOf, zeros, restOf, recordOf}
+use Rattle.framelog.specs.Layout.{headerSize, frameMax, lengthOf, reservedOf, zeros, endOf, restOf, recordOf}
 use Rattle.framelog.specs.Reading.{isZero, readOf, frameAfter}
 use Rattle.framelog.specs.Writing.{written, sliceAfter}
-use Rattle.framelog.specs.Statements.{Size, ReadsBackAs, ReadsBack, ReadWasWritten}
+use Rattle.framelog.specs.Statements.{Size, SizeInUse, WritesEach, ReadsBackAs, ReadsBack, ReadWasWritten}
 use Rattle.framelog.specs.declared.Logged.{Logged}
 use Rattle.framelog.specs.declared.Logged.the-variants.{Frame}
 use Rattle.framelog.specs.declared.Written.{Written}
 use Rattle.framelog.specs.declared.Written.the-variants.{Done}
-use Rattle.framelog.proofs.Answers.{wrong-size, frame-long, not-zero, bad-end, frame-read, write-size, write-long, record-length}
+use Rattle.framelog.proofs.Answers.{drop-zeros, wrong-size, frame-long, not-zero, bad-end, frame-read, write-size, write-long, write-done, record-length}
 
 zeros-zero : (n : ℕ) → isZero (zeros n) ≡ true
 zeros-zero n = equal-same (zeros n) (zeros (length (zeros n))) (ap zeros (sym (length-replicate n 0)))
@@ -43,18 +43,26 @@ module _ (size : ℕ) (frame : List ℕ) (legal : Size size) (fits : length fram
   behind-header : drop headerSize r ≡ frame ++ rest
   behind-header = sym (drop-drop 2 2 r) ∙ ap (drop 2) behind-length
 
-  rest-is : restOf r ≡ rest
-  rest-is =
-      ap (λ (n : ℕ). drop (headerSize + n) r) length-is
-      ∙ sym (drop-drop (length frame) headerSize r)
-      ∙ ap (drop (length frame)) behind-header
-      ∙ drop-at frame rest (length frame) refl
+  -- from any place behind the frame on there are zeros
+  behind-frame : (at : ℕ) → headerSize + length frame ≤ at → drop at r ≡ zeros (size - at)
+  behind-frame at past =
+      let on = at - headerSize - length frame in
+      let place : at ≡ headerSize + length frame + on = omega arith in
+      let left : frameMax size - length frame - on ≡ size - at = omega arith in
+      ap (λ (k : ℕ). drop k r) place
+      ∙ sym (drop-drop on (headerSize + length frame) r)
+      ∙ ap (drop on) (sym (drop-drop (length frame) headerSize r) ∙ ap (drop (length frame)) behind-header ∙ drop-at frame rest (length frame) refl)
+      ∙ drop-zeros on (frameMax size - length frame)
+      ∙ ap zeros left
+
+  zero-behind : (at : ℕ) → headerSize + length frame ≤ at → isZero (drop at r) ≡ true
+  zero-behind at past = ap (λ (s : List ℕ). isZero s) (behind-frame at past) ∙ zeros-zero (size - at)
 
   reads : readOf size r ≡ Frame (length frame)
   reads =
       frame-read size r (record-length size frame (legal .least) fits) (rw length-is fits)
       (ap (λ (s : List ℕ). isZero (take 2 s)) behind-length ∙ zeros-zero 2)
-      (ap (λ (s : List ℕ). isZero s) rest-is ∙ zeros-zero (frameMax size - length frame))
+      (zero-behind (endOf (lengthOf r)) (rw length-is (omega arith)))
       ∙ ap Frame length-is
 
   reads-as : ReadsBackAs size frame r
@@ -80,6 +88,12 @@ done size frame slice e = by-size (eqb (length slice) size) refl
     by-size : (t : Bool) → eqb (length slice) size ≡ t → Fits size frame slice
     by-size true q = by-frame (eqb-true (length slice) size q) (ltb (frameMax size) (length frame)) refl
     by-size false q = let z = sym (write-size size frame slice (eqb-false (length slice) size q)) ∙ e in apart (cc)
+
+pub size-in-use : SizeInUse
+size-in-use = record { least = omega arith; most = omega arith }
+
+pub writes-each : WritesEach
+writes-each = write-done
 
 pub reads-back : ReadsBack
 reads-back size frame slice legal e =
@@ -128,7 +142,7 @@ read-was-written size r n legal are e =
     let long : length frame ≡ lengthOf r = length-take-le (lengthOf r) (drop headerSize r) (omega (arith, g .most)) in
     let first : take 2 r ≡ bytes 2 (length frame) = sym (bytes-word 2 r are (omega (arith, g .whole, legal .least))) ∙ ap (bytes 2) (sym long) in
     let two : length (reservedOf r) ≡ 2 = length-take-le 2 (drop 2 r) (rw (length-drop 2 r) (omega (arith, g .whole, legal .least))) in
-    let left : length (restOf r) ≡ frameMax size - length frame = length-drop (headerSize + lengthOf r) r ∙ omega (arith, g .whole, long) in
+    let left : length (restOf r) ≡ frameMax size - length frame = length-drop (endOf (lengthOf r)) r ∙ omega (arith, g .whole, long) in
     let behind : drop headerSize r ≡ frame ++ zeros (frameMax size - length frame) =
     sym (take-append-drop (lengthOf r) (drop headerSize r))
     ∙ ap (λ (l : List ℕ). frame ++ l) (drop-drop (lengthOf r) headerSize r ∙ all-zero (restOf r) _ (g .rest) left) in

@@ -35,9 +35,13 @@ reservedOf r = take 2 (drop 2 r)
 abbrev pub zeros : ℕ → List ℕ
 zeros n = replicate n 0
 
+-- where a frame of n bytes ends
+abbrev pub endOf : ℕ → ℕ
+endOf n = headerSize + n
+
 -- what stands behind the frame
 abbrev pub restOf : List ℕ → List ℕ
-restOf r = drop (headerSize + lengthOf r) r
+restOf r = drop (endOf (lengthOf r)) r
 
 -- the record of a frame
 abbrev pub recordOf : ℕ → List ℕ → List ℕ

@@ -1,4 +1,5 @@
--- What follows for states and runs: `stays-consistent`, `never-bad`, `refusal-leaves`, `never-in-vain`, `sent-is-framed`, `written-is-handed-up`.
+-- What follows for states and runs: `stays-consistent`, `never-bad`, `refusal-leaves`, `never-in-vain`, `sent-is-framed`, `framed-is-sent`,
+-- `written-is-handed-up`.
 -- Assumes nothing.
 use Prim.Native.Nat.{ℕ, zero, suc, _+_, _-_, _^_, _≤_, _<_}
 use mathlib.Core.Bool.{Bool, true, false}
@@ -26,9 +27,9 @@ use Rattle.frame.specs.declared.read.Reason.the-variants.{FrameShort, FrameLong
 use Rattle.frame.proofs.Theorems.{writes-a-framing}
 use Rattle.reassembly.specs.Step.{Stepped, numberOf, consistent, sameWords, stateAfter, refused, waiting, landed, delivered, wanting, isNext, isFirst, accept, begin, proceed, stepOf}
 use Rattle.reassembly.specs.Run.{HandedUp, handedUp, run, verdicts}
-use Rattle.reassembly.specs.Traffic.{Sent, Transmission, Traffic, PutIn, Legal, envelopeFor, callsFrom, callsOf, calls, allArrive, asSent, expectedFrom, gives, expectedOf, expected}
+use Rattle.reassembly.specs.Traffic.{Message, Sent, Transmission, Traffic, PutIn, Legal, envelopeFor, callsFrom, callsOf, calls, allArrive, asSent, expectedFrom, gives, expectedOf, expected}
 use Rattle.reassembly.specs.Helpers.{lacksData}
-use Rattle.reassembly.specs.Statements.{NotBad, StaysConsistent, NeverBad, RefusalLeaves, untouched, SentIsFramed, NeverInVain, Outgoing, LegalOutgoing, framesOf, handsUp, WrittenIsHandedUp}
+use Rattle.reassembly.specs.Statements.{NotBad, StaysConsistent, NeverBad, RefusalLeaves, untouched, SentIsFramed, FramedIsSent, NeverInVain, Outgoing, LegalOutgoing, framesOf, handsUp, WrittenIsHandedUp}
 use Rattle.reassembly.specs.declared.Progress.{Progress}
 use Rattle.reassembly.specs.declared.State.{State}
 use Rattle.reassembly.specs.declared.State.the-variants.{Fresh, Open}
@@ -231,17 +232,50 @@ sent-is-framed us room t legal =
       frames-are = ap (callsFrom e total 0) (untouched-are (t .frames)) ∙ calls-sent e total 0 (map (λ s. s .piece) (t .frames));
     }
 
-expected-sent : (up : Option HandedUp) (p : List ℕ) (ps : List (List ℕ)) → expectedFrom up (sentAll (p ∷ ps)) ≡ replicate (length ps) none ++ (up ∷ [])
-unfolding expectedFrom
-expected-sent up p [] = refl
-expected-sent up p (q ∷ ps) = ap (λ (l : List (Option HandedUp)). none ∷ l) (expected-sent up q ps)
-
 -- what is cut has a first piece
 first-piece : (bytes : List ℕ) (ps : List (List ℕ)) → Cut bytes ps → (p : List ℕ) × (rest : List (List ℕ)) × (ps ≡ p ∷ rest)
 unfolding flatten
 first-piece [] [] cut = apart (cc)
 first-piece (b ∷ bytes) [] cut = apart (let none-left = cut .1 in cc)
 first-piece bytes (p ∷ ps) cut = (p, ps, refl)
+
+-- the frames of a framing as a transmission in which nothing is lost
+module _ (us room : ℕ) (m : Message) (frames : List (List ℕ)) (framed : Framing (envelopeFor us m) (m .bytes) frames) where
+  abbrev transmission : Transmission
+  transmission = record { message = m; frames = sentAll (framed .pieces) }
+
+  starts : (q : List ℕ) × (rest : List (List ℕ)) × (framed .pieces ≡ q ∷ rest)
+  starts = first-piece (m .bytes) (framed .pieces) (framed .cut)
+
+  transmitted : m .id < 2 ^ 32 → m .sender < 2 ^ 32 → m .status < 2 ^ 32 → length (m .bytes) ≤ room → Legal us room transmission
+  transmitted id sender status fits =
+      record {
+        id = id;
+        sender = sender;
+        status = status;
+        bounded = framed .bounded;
+        fits = fits;
+        cut = rw (pieces-sent (framed .pieces)) (framed .cut);
+        first-arrives = rw (starts .2) refl;
+        put-in = nothing-put-in us (framed .pieces);
+      }
+
+  called : callsFrom (envelopeFor us m) (length (m .bytes)) 0 (transmission .frames) ≡ frames
+  called = calls-sent (envelopeFor us m) (length (m .bytes)) 0 (framed .pieces) ∙ sym (framed .frames-are)
+
+pub framed-is-sent : FramedIsSent
+framed-is-sent us room m frames id sender status fits framed =
+    record {
+      sent = sentAll (framed .pieces);
+      legal = transmitted us room m frames framed id sender status fits;
+      whole = untouched-are (sentAll (framed .pieces)) ∙ ap sentAll (pieces-sent (framed .pieces));
+      calls-are = called us room m frames framed;
+    }
+
+expected-sent : (up : Option HandedUp) (p : List ℕ) (ps : List (List ℕ)) → expectedFrom up (sentAll (p ∷ ps)) ≡ replicate (length ps) none ++ (up ∷ [])
+unfolding expectedFrom
+expected-sent up p [] = refl
+expected-sent up p (q ∷ ps) = ap (λ (l : List (Option HandedUp)). none ∷ l) (expected-sent up q ps)
 
 length-frames : (e : Envelope) (total i : ℕ) (ps : List (List ℕ)) → length (framesFrom e total i ps) ≡ length ps
 unfolding framesFrom
@@ -258,54 +292,42 @@ hands up ps count len q =
     let fewer : count - 1 ≡ length (q .1) = omega (arith, ap length (q .2)) in
     rw (q .2, fewer) (expected-sent up (q .0) (q .1))
 
--- the writer's frames as a transmission in which nothing is lost
+-- the writer's frames are one
 module _ (us room : ℕ) (p : Outgoing) (l : LegalOutgoing room p) where
   framed : Framing (envelopeFor us (p .message)) (p .message .bytes) (framesOf us p)
   framed = writes-a-framing (envelopeFor us (p .message)) (p .message .bytes) (p .size) (p .count) (l .counts)
 
-  abbrev transmission : Transmission
-  transmission = record { message = p .message; frames = sentAll (framed .pieces) }
+  abbrev outgoing : Transmission
+  outgoing = transmission us room (p .message) (framesOf us p) framed
 
-  starts : (q : List ℕ) × (rest : List (List ℕ)) × (framed .pieces ≡ q ∷ rest)
-  starts = first-piece (p .message .bytes) (framed .pieces) (framed .cut)
+  legal-outgoing : Legal us room outgoing
+  legal-outgoing = transmitted us room (p .message) (framesOf us p) framed (l .id) (l .sender) (l .status) (l .fits)
 
-  transmitted : Legal us room transmission
-  transmitted =
-      record {
-        id = l .id;
-        sender = l .sender;
-        status = l .status;
-        bounded = framed .bounded;
-        fits = l .fits;
-        cut = rw (pieces-sent (framed .pieces)) (framed .cut);
-        first-arrives = rw (starts .2) refl;
-        put-in = nothing-put-in us (framed .pieces);
-      }
+  called-outgoing : callsFrom (envelopeFor us (p .message)) (length (p .message .bytes)) 0 (outgoing .frames) ≡ framesOf us p
+  called-outgoing = called us room (p .message) (framesOf us p) framed
 
-  called : callsFrom (envelopeFor us (p .message)) (length (p .message .bytes)) 0 (transmission .frames) ≡ framesOf us p
-  called = calls-sent (envelopeFor us (p .message)) (length (p .message .bytes)) 0 (framed .pieces) ∙ sym (framed .frames-are)
-
-  given-up : expectedFrom (gives transmission) (transmission .frames) ≡ handsUp p
+  given-up : expectedFrom (gives outgoing) (outgoing .frames) ≡ handsUp p
   given-up =
       let e = envelopeFor us (p .message) in
       let many : length (framed .pieces) ≡ p .count =
       sym (length-frames e (length (p .message .bytes)) 0 (framed .pieces)) ∙ ap length (sym (framed .frames-are)) ∙ length-up _ 0 (p .count) in
-      rw (all-sent (framed .pieces)) (hands (some (asSent (p .message))) (framed .pieces) (p .count) many starts)
+      rw (all-sent (framed .pieces))
+      (hands (some (asSent (p .message))) (framed .pieces) (p .count) many (starts us room (p .message) (framesOf us p) framed))
 
 module _ (us room : ℕ) where
   transmissions : (ps : List Outgoing) → All (LegalOutgoing room) ps → List Transmission
   transmissions [] ls = []
-  transmissions (p ∷ ps) ls = transmission us room p (ls .0) ∷ transmissions ps (ls .1)
+  transmissions (p ∷ ps) ls = outgoing us room p (ls .0) ∷ transmissions ps (ls .1)
 
   all-transmitted : (ps : List Outgoing) (ls : All (LegalOutgoing room) ps) → All (Legal us room) (transmissions ps ls)
   unfolding transmissions
   all-transmitted [] ls = tt
-  all-transmitted (p ∷ ps) ls = (transmitted us room p (ls .0), all-transmitted ps (ls .1))
+  all-transmitted (p ∷ ps) ls = (legal-outgoing us room p (ls .0), all-transmitted ps (ls .1))
 
   all-called : (ps : List Outgoing) (ls : All (LegalOutgoing room) ps) → callsOf us (transmissions ps ls) [] ≡ flatten (map (framesOf us) ps)
   unfolding transmissions callsOf flatten
   all-called [] ls = refl
-  all-called (p ∷ ps) ls = ap₂ _++_ (called us room p (ls .0)) (all-called ps (ls .1))
+  all-called (p ∷ ps) ls = ap₂ _++_ (called-outgoing us room p (ls .0)) (all-called ps (ls .1))
 
   all-given-up : (ps : List Outgoing) (ls : All (LegalOutgoing room) ps) → expectedOf (transmissions ps ls) [] ≡ flatten (map handsUp ps)
   unfolding transmissions expectedOf flatten

@@ -52,6 +52,24 @@ SentIsFramed =
     → Framing (envelopeFor us (t .message)) (t .message .bytes)
     (callsFrom (envelopeFor us (t .message)) (length (t .message .bytes)) 0 (untouched (t .frames)))
 
+-- `framed-is-sent`. And each framing is sent: frames that are a framing of a message that fits are the calls of a legal transmission in which nothing is
+-- taken out or put in. So demand 3 leaves out no framing that demand 2 allows.
+pub record SentAs (us room : ℕ) (m : Message) (frames : List (List ℕ)) : Type 0 where
+  pub sent : List Sent
+  pub legal : Legal us room (record { message = m; frames = sent })
+  pub whole : untouched sent ≡ sent
+  pub calls-are : callsFrom (envelopeFor us m) (length (m .bytes)) 0 sent ≡ frames
+
+abbrev pub FramedIsSent : Type 0
+FramedIsSent =
+    (us room : ℕ) (m : Message) (frames : List (List ℕ))
+    → m .id < 2 ^ 32
+    → m .sender < 2 ^ 32
+    → m .status < 2 ^ 32
+    → length (m .bytes) ≤ room
+    → Framing (envelopeFor us m) (m .bytes) frames
+    → SentAs us room m frames
+
 -- `never-in-vain`. The same after any frames at all, be they whole messages, parts of some or garbage: what comes then is handed up as if it had come
 -- first. So no message is waited for in vain, and none that comes whole is lost.
 abbrev pub NeverInVain : Type 0

@@ -15,7 +15,7 @@ use Rattle.le.proofs.Comparing.{equal-same}
 use Rattle.ubios.specs.Layout.{tableHeader, rootHeader, countMax, nameMax, version, upToZero, nameOf, totalOf, versionOf, remainingOf, usedOf, summedPart, rootName, countOf, addresses, slotsOf}
 use Rattle.ubios.specs.Checks.{tableAt, badSize, judged, rootJudged}
 use Rattle.ubios.specs.Lookup.{badName}
-use Rattle.ubios.specs.Statements.{headOf, checksumOf, tableOf, Laid, LaidPasses, LaidName, slotBytes, Addresses, rootBody, RootLaid, LaidRoot}
+use Rattle.ubios.specs.Statements.{headOf, checksumOf, tableOf, Laid, LaidPasses, EndsName, LaidName, slotBytes, Addresses, rootBody, RootLaid, LaidRoot}
 use Rattle.ubios.specs.declared.Table.{Table}
 use Rattle.ubios.specs.declared.Checked.the-variants.{Passed}
 use Rattle.ubios.proofs.Answers.{not-outside, good-size, judged-passed, is-inside, root-judged, root-passed, good-count}
@@ -128,16 +128,21 @@ laid-passes header base front field reserved remaining body rest long laid =
     ∙ judged-here header base front field reserved remaining body rest long laid
 
 -- the name in a field
-name-in : (name junk behind : List ℕ) → badName name ≡ false → length (name ++ (0 ∷ junk)) ≡ nameMax → nameOf ((name ++ (0 ∷ junk)) ++ behind) ≡ name
-name-in name junk behind good long =
-    ap upToZero (take-at (name ++ (0 ∷ junk)) behind nameMax long)
-    ∙ joined name (0 ∷ junk) (whole-name name good)
-    ∙ ap (λ (l : List ℕ). name ++ l) (ends 0 junk refl)
+nothing-more : (end : List ℕ) → EndsName end → upToZero end ≡ []
+unfolding upToZero
+nothing-more [] e = refl
+nothing-more (b ∷ junk) e = ends b junk e
+
+name-in : (name end behind : List ℕ) → badName name ≡ false → EndsName end → length (name ++ end) ≡ nameMax → nameOf ((name ++ end) ++ behind) ≡ name
+name-in name end behind good ended long =
+    ap upToZero (take-at (name ++ end) behind nameMax long)
+    ∙ joined name end (whole-name name good)
+    ∙ ap (λ (l : List ℕ). name ++ l) (nothing-more end ended)
     ∙ append-nil name
 
 pub laid-name : LaidName
-laid-name base front name junk behind good long =
-    ap (λ (t : List ℕ). nameOf t) (at-address base front ((name ++ (0 ∷ junk)) ++ behind)) ∙ name-in name junk behind good long
+laid-name base front name end behind good ended long =
+    ap (λ (t : List ℕ). nameOf t) (at-address base front ((name ++ end) ++ behind)) ∙ name-in name end behind good ended long
 
 -- addresses that were laid out are read back
 read-slots : (slots behind : List ℕ) → Addresses slots → addresses (length slots) (slotBytes slots ++ behind) ≡ slots
@@ -186,7 +191,7 @@ module _ (base : ℕ) (front junk reserved : List ℕ) (remaining : ℕ) (six sl
   named-root : nameOf root ≡ rootName
   named-root =
       ap (λ (t : List ℕ). nameOf t) (append-assoc first (check ++ body) rest ∙ append-assoc field _ ((check ++ body) ++ rest))
-      ∙ name-in rootName junk _ root-name-good (laid .named)
+      ∙ name-in rootName (0 ∷ junk) _ root-name-good refl (laid .named)
 
   behind-head : drop tableHeader root ≡ body ++ rest
   behind-head =

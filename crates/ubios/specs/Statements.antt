@@ -139,13 +139,19 @@ LaidPasses =
     → checked header base (front ++ (tableOf field reserved remaining body ++ rest)) (base + length front)
     ≡ Passed (record { at = length front; used = tableHeader + length body })
 
--- `laid-name`. The name of a table is what stands in its field before the first zero, whatever follows.
+-- what may follow a name in its field: a zero and anything, or nothing where the name fills the field
+abbrev pub EndsName : List ℕ → Type 0
+EndsName [] = Unit {0}
+EndsName (b ∷ junk) = b ≡ 0
+
+-- `laid-name`. The name of a table is what stands in its field before the first zero, whatever follows, or all of its field.
 abbrev pub LaidName : Type 0
 LaidName =
-    (base : ℕ) (front name junk behind : List ℕ)
+    (base : ℕ) (front name end behind : List ℕ)
     → badName name ≡ false
-    → length (name ++ (0 ∷ junk)) ≡ nameMax
-    → nameOf (tableAt base (front ++ ((name ++ (0 ∷ junk)) ++ behind)) (base + length front)) ≡ name
+    → EndsName end
+    → length (name ++ end) ≡ nameMax
+    → nameOf (tableAt base (front ++ ((name ++ end) ++ behind)) (base + length front)) ≡ name
 
 -- the slots of a root, one after another
 unfoldable pub slotBytes : List ℕ → List ℕ

@@ -1,6 +1,6 @@
 -- `framelog::read` meets its contract: at each `return` the tests that led there say which answer it is.
 -- Assumes nothing.
-use Prim.Native.Nat.{ℕ, _+_, _≤_}
+use Prim.Native.Nat.{ℕ, _≤_}
 use mathlib.Core.Bool.{true}
 use mathlib.Core.Path.{_≡_, sym, ap, _∙_}
 use mathlib.Core.List.{List}
@@ -8,7 +8,7 @@ use borrow.Author.Tests.{not-true, not-false}
 use native.Mathlib.Omega.{arith}
 use lib.ListN.{length, drop}
 use Rattle.le.specs.Word.{AreBytes}
-use Rattle.framelog.specs.Layout.{recordSize, headerSize, frameMax, lengthOf, reservedOf, restOf}
+use Rattle.framelog.specs.Layout.{recordSize, headerSize, frameMax, lengthOf, reservedOf, endOf, restOf}
 use Rattle.framelog.specs.Reading.{isZero}
 use Rattle.framelog.specs.declared.Logged.the-variants.{Frame}
 use Rattle.framelog.proofs.Answers.{wrong-size, frame-long, not-zero, bad-end, frame-read, reserved-zero, reserved-not}
@@ -41,7 +41,7 @@ rest : (c : tie.After-is-zero) → c .is-zero .result ≡ isZero (restOf (slice 
 rest c =
     let at-length = c .before .before .before .before .before in
     c .is-zero .ensures
-    ∙ ap (λ (s : List ℕ). isZero s) (c .before .tail .ensures ∙ ap (λ (n : ℕ). drop (headerSize + n) (slice at-length)) (at-length .u16-at .ensures))
+    ∙ ap (λ (s : List ℕ). isZero s) (c .before .tail .ensures ∙ ap (λ (n : ℕ). drop (endOf n) (slice at-length)) (at-length .u16-at .ensures))
 
 returns : tie.Need-returns
 returns c = sym (wrong-size recordSize (c .before .before .args .slice .now) (c .if1 .taken))
