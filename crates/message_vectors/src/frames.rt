@@ -5,19 +5,23 @@ use frame::read::Parsed;
 use frame::write::Counted;
 use frame::write::Written;
 
-pub const RECEIVER: u32 = 11;
+pub(crate) const RECEIVER: u32 = 11;
 
-pub const OTHER_RECEIVER: u32 = 12;
+pub(crate) const OTHER_RECEIVER: u32 = 12;
 
-pub const STATUS: u32 = 0xFFFF_FFFF;
+pub(crate) const STATUS: u32 = 0xFFFF_FFFF;
+
+pub(crate) const ID: u32 = 0x0102_0304;
+
+pub(crate) const SENDER: u32 = 10;
 
 // The size of the pieces that most messages here are cut in.
 const PIECE: usize = 2;
 
 fn envelope(receiver: u32, status: u32) -> Envelope {
     Envelope {
-        id: 0x0102_0304,
-        sender: 10,
+        id: ID,
+        sender: SENDER,
         status,
         receiver,
     }
@@ -123,17 +127,17 @@ fn run_refusals(five: &[u8], bytes: &[u8], out: &mut [u8]) {
 
 fn run_reader(five: &[u8]) {
     let right = Header::TYPE_VERSION;
-    read(b"read, index 1 for receiver 11", five, right, 26, RECEIVER);
+    read(b"read, index 1, by receiver 11", five, right, 26, RECEIVER);
     read(b"read, its first 23 bytes", five, right, 23, RECEIVER);
     read(b"read, 257 bytes", five, right, 257, RECEIVER);
     read(b"read, byte 0 is 0x12", five, 0x12, 26, RECEIVER);
     let other = OTHER_RECEIVER;
-    read(b"read, index 1 for receiver 12", five, right, 26, other);
+    read(b"read, index 1, by receiver 12", five, right, 26, other);
 }
 
 fn title() {
     report::text(
-        b"Frames of message 0x01020304, sender 10, receiver 11, word 0xFFFFFFFF; byte k of a message is k + 1",
+        b"Frames of message 0x01020304, sender 10, receiver 11, word 0xFFFFFFFF; byte k of a message is k + 1 modulo 256",
     );
 }
 

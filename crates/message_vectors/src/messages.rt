@@ -1,7 +1,9 @@
 // Reassembly: a whole message, and then each thing that can go wrong.
 use crate::frames;
+use crate::frames::ID;
 use crate::frames::OTHER_RECEIVER;
 use crate::frames::RECEIVER;
+use crate::frames::SENDER;
 use crate::frames::STATUS;
 use frame::Header;
 use frame::Words;
@@ -126,8 +128,8 @@ fn run_open(five: &[u8]) {
 fn no_state() -> State {
     State::Open(Progress {
         words: Words {
-            id: 0x0102_0304,
-            sender: 10,
+            id: ID,
+            sender: SENDER,
             status: STATUS,
             total: 5,
         },
@@ -146,7 +148,9 @@ fn run_first(five: &[u8], nine: &[u8]) {
 }
 
 pub(crate) fn run(bytes: &[u8]) {
-    report::text(b"\nReassembly of these 5 bytes in pieces of 2, for receiver 11, buffer of 8");
+    report::text(
+        b"\nReassembly of a message of 5 bytes in pieces of 2, for receiver 11, buffer of 8",
+    );
     let five = le::head(bytes, 5);
     run_loss(five);
     run_open(five);

@@ -34,7 +34,7 @@ fn word(x: u64) {
     byte(w[0]);
 }
 
-// A byte of a pattern, and how many values it takes.
+// Prints a byte of a pattern, and answers how many values it takes.
 fn symbol(c: u8, x: u64) -> usize {
     if c == b'%' {
         io::print_decimal(STDOUT_FILENO, x);

@@ -111,7 +111,7 @@ fn frames() -> Vec<String> {
     let second = frame_of(&ENVELOPE, 5, 1);
     part(
         "Frames of message 0x01020304, sender 10, receiver 11, word 0xFFFFFFFF; \
-         byte k of a message is k + 1",
+         byte k of a message is k + 1 modulo 256",
         &[
             count(5, 2),
             write(5, 2, 0, 256),
@@ -127,11 +127,11 @@ fn frames() -> Vec<String> {
             write(5, 233, 0, 256),
             write(5, 2, 3, 256),
             write(5, 2, 0, 25),
-            read("index 1 for receiver 11", &second, US),
+            read("index 1, by receiver 11", &second, US),
             read("its first 23 bytes", &second[..23], US),
             read("257 bytes", &extended(&second, 257), US),
             read("byte 0 is 0x12", &changed(&second, 0, 0x12), US),
-            read("index 1 for receiver 12", &second, 12),
+            read("index 1, by receiver 12", &second, 12),
         ],
     )
 }
@@ -180,10 +180,9 @@ fn reassembly() -> Vec<String> {
     let [mut to_another, mut other_word] = [ENVELOPE; 2];
     to_another.receiver = 12;
     other_word.status = 0;
-    let overfull = [&first[..24], &counting(6)].concat();
     let mut receiver = Receiver::new();
     part(
-        "Reassembly of these 5 bytes in pieces of 2, for receiver 11, buffer of 8",
+        "Reassembly of a message of 5 bytes in pieces of 2, for receiver 11, buffer of 8",
         &[
             receiver.step("index 0", &first),
             receiver.step("index 1", &second),
@@ -199,8 +198,8 @@ fn reassembly() -> Vec<String> {
             receiver.step("index 1, word 0x00000000", &frame_of(&other_word, 5, 1)),
             receiver.step("index 0 of 9 bytes", &frame_of(&ENVELOPE, 9, 0)),
             receiver.step("index 0, without its data", &first[..24]),
-            receiver.step("index 0, 6 bytes of data", &overfull),
-            receiver.at_next(0).step("index 0, from next 0", &first),
+            receiver.step("index 0, 6 bytes of data", &extended(&first, 30)),
+            receiver.at_next_0().step("index 0, from next 0", &first),
         ],
     )
 }
@@ -216,8 +215,8 @@ impl Receiver {
         Receiver { state, buffer }
     }
 
-    /// The five bytes are open, and the frame that is wanted is that of this Index.
-    fn at_next(&mut self, next: u64) -> &mut Receiver {
+    /// The five bytes are open, though none of them came.
+    fn at_next_0(&mut self) -> &mut Receiver {
         let words = Words {
             id: ENVELOPE.id,
             sender: ENVELOPE.sender,
@@ -226,8 +225,8 @@ impl Receiver {
         };
         self.state = State::Open(Open {
             words,
-            next,
-            filled: 2,
+            next: 0,
+            filled: 0,
         });
         self
     }
@@ -279,7 +278,7 @@ fn notices() -> Vec<String> {
             ring.take_into(8),
             ring.post_notice(9, 1025),
             ring.at(9, 0).take("7 bytes wait", 8),
-            ring.at(16, 0).post("position 16", 9, 0),
+            ring.at(16, 0).post("position 16", 9, 1025),
             Ring::new(12).take("a ring of 12", 8),
         ],
     )
@@ -336,11 +335,13 @@ impl Ring {
 const BASE: u64 = 4096;
 const SOUND_SPEED: u64 = BASE + 64;
 const DEPTH: u64 = BASE + 112;
+/// The place of a reserved byte.
+const RESERVED: usize = 21;
 
 fn ubios_tables() -> Vec<String> {
     let gap = region([0, SOUND_SPEED, DEPTH]);
     let twice = region([DEPTH, SOUND_SPEED, DEPTH]);
-    let one_more = changed(&gap, CHECKSUM, gap[CHECKSUM].wrapping_add(1));
+    let one_more = changed(&twice, RESERVED, twice[RESERVED].wrapping_add(1));
     part(
         "UBIOS tables in a region of 256 bytes at 4096: \
          a root with three slots, a gap, sound_speed and depth",
@@ -354,9 +355,9 @@ fn ubios_tables() -> Vec<String> {
             find("depth", &gap, b"depth"),
             find("bottom", &gap, b"bottom"),
             find("depth, in two slots", &twice, b"depth"),
-            find("no name", &gap, b""),
-            root("root at 4100", &gap, 4100),
-            root("root at 8192", &gap, 8192),
+            find("no name", &twice, b""),
+            root("root at 4100", &twice, 4100),
+            root("root at 8192", &twice, 8192),
             root("root, Total 39", &resealed(&gap, TOTAL, 39), BASE),
             root("root, Version 2", &resealed(&gap, VERSION, 2), BASE),
             root("root, one byte more in its sum", &one_more, BASE),
@@ -437,26 +438,26 @@ fn resealed(region: &[u8], at: usize, byte: u8) -> Vec<u8> {
 
 fn sfi_tables() -> Vec<String> {
     let cpus = cpus();
-    let failing = changed(&cpus, sfi_tables::CHECKSUM, 0);
+    let failing = &cpus[..27];
     part(
         "SFI tables",
         &[
             checksum_of_cpus(),
             check("CPUS of 28 bytes", &cpus),
-            check("its first 27 bytes", &cpus[..27]),
-            check("another signature", &changed(&cpus, 0, b'c')),
-            check("Revision 2", &changed(&cpus, sfi_tables::REVISION, 2)),
-            check("Length 27", &changed(&cpus, sfi_tables::LENGTH, 27)),
-            check("Checksum 0", &failing),
+            check("its first 27 bytes", failing),
+            check("another signature", &resealed_sfi(&cpus, 3, b'X')),
+            check("Revision 2", &resealed_sfi(&cpus, sfi_tables::REVISION, 2)),
+            check("Length 27", &resealed_sfi(&cpus, sfi_tables::LENGTH, 27)),
+            check("Checksum 0", &changed(&cpus, sfi_tables::CHECKSUM, 0)),
             entry(&cpus, 0),
             entry(&cpus, 1),
             find_syst("at 4064 with Length 32", &memory(4064, 32)),
             find_syst("at 4064 with Length 40", &memory(4064, 40)),
-            find_syst("131071 bytes", &memory(4064, 32)[..131_071]),
-            choose("choose CPUS, the board's passes", b"CPUS", &cpus, &cpus),
-            choose("choose CPUS, the board's fails", b"CPUS", &failing, &cpus),
-            choose("choose CPUS, both fail", b"CPUS", &failing, &failing),
-            choose("choose, another signature", b"cPUS", &cpus, &cpus),
+            find_syst("131071 bytes", &memory(4064, 40)[..131_071]),
+            choose("choose CPUS, the board's passes", b"CPUS", &cpus, failing),
+            choose("choose CPUS, the board's fails", b"CPUS", failing, &cpus),
+            choose("choose CPUS, both fail", b"CPUS", failing, failing),
+            choose("choose, another signature", b"CPUX", &cpus, &cpus),
         ],
     )
 }
@@ -467,6 +468,13 @@ fn cpus() -> Vec<u8> {
     put(&mut table, 0, b"CPUS");
     put_word(&mut table, sfi_tables::LENGTH, 28);
     table[sfi_tables::REVISION] = 1;
+    sfi_tables::seal(&mut table);
+    table
+}
+
+/// With another byte, and the checksum that it needs then.
+fn resealed_sfi(table: &[u8], at: usize, byte: u8) -> Vec<u8> {
+    let mut table = changed(table, at, byte);
     sfi_tables::seal(&mut table);
     table
 }
