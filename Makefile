@@ -12,7 +12,7 @@ quietly = @said=$$($(1) 2>&1) || { printf '%s\n' "$$said"; exit 1; }
 help:
 	@echo 'make test      the gate: layout, documents, lints, proofs, must-fail edits, programs, examples, Rust tests'
 	@echo 'make demo      prove the demonstration and run it'
-	@echo 'make vectors   prove the numbers to check by and run them'
+	@echo 'make vectors   run the numbers to check by, and every refusal, through the proved code'
 	@echo 'make examples  link the library from C and from Rust, and run both'
 	@echo 'make bench     time the library beside plain Rust'
 	@echo 'make times     the gate, and docs/TIMES.md from what it printed'

@@ -104,7 +104,7 @@ enum {
 enum {
     HS_REFUSED_BAD_RING = 20,            /* ring_len or a position is not legal */
     HS_REFUSED_EMPTY = 21,               /* nothing waits */
-    HS_REFUSED_DAMAGED = 22,             /* no whole notice waits */
+    HS_REFUSED_DAMAGED = 22,             /* what waits starts with no legal notice */
     HS_REFUSED_NOTICE_OUTPUT_SHORT = 23, /* output shorter than the data */
     HS_REFUSED_NOTICE_LONG = 24,         /* data over HS_NOTICE_MAX bytes */
     HS_REFUSED_FULL = 25,                /* the notice does not fit what is free */
@@ -168,8 +168,8 @@ uint32_t hs_frame_parse(const uint8_t *frame, size_t frame_len, uint32_t us,
 uint32_t hs_frame_count(size_t length, size_t piece_size, size_t *frames);
 
 /* Writes the frame index, counted from 0 and of any value, of a message whose
- * pieces all have piece_size bytes, but for a shorter last one. HS_OK: the frame
- * is the first *frame_len bytes of out, and out is unchanged behind them.
+ * pieces all have piece_size bytes, but for the last, which may be shorter. HS_OK: the
+ * frame is the first *frame_len bytes of out, and out is unchanged behind them.
  * Refusals 10, 12, 13, 14: out and *frame_len are unchanged. */
 uint32_t hs_frame_write(uint32_t id, uint32_t sender, uint32_t status,
                         uint32_t receiver, const uint8_t *message,
@@ -187,7 +187,7 @@ uint32_t hs_frame_write(uint32_t id, uint32_t sender, uint32_t status,
  * bytes filled. It is consistent if each word is below 2^32, 1 <= next <= filled < Data
  * Total Size, and that is at most HS_MESSAGE_MAX and buffer_len. Any other state gets
  * 11. The call leaves the state for the next one: as before with 1 to 4, else fresh
- * unless more is wanted. Fresh is written as seven zeros. */
+ * unless more is wanted. Fresh is always written as seven zeros, also with 1 to 4. */
 uint32_t hs_reassembly_step(uint64_t state[HS_STATE_NUMBERS], const uint8_t *frame,
                             size_t frame_len, uint32_t us, uint8_t *buffer,
                             size_t buffer_len, uint32_t words[HS_WORDS]);
@@ -302,12 +302,14 @@ uint32_t hs_sfi_find_syst(const uint8_t *memory, size_t memory_len, size_t *offs
 uint32_t hs_sfi_choose(uint32_t signature, const uint8_t *board, size_t board_len,
                        const uint8_t *built_in, size_t built_in_len, size_t *length);
 
-/* Reads a record of the frame log: the frame's length (16 bits), two zero bytes, the
- * frame, and zeros to the end. HS_OK: *frame_len is the frame's length; the frame stands
- * from byte HS_LOG_HEADER_SIZE on. Refusals 50, 52, 51, 53: *frame_len is unchanged. */
+/* Reads a record of the frame log: the frame's length (16 bits, little-endian), two zero
+ * bytes, the frame, and zeros to the end. The frame itself is not read: it may have any
+ * bytes, and from 0 to HS_LOG_FRAME_MAX of them. HS_OK: *frame_len is the frame's length;
+ * the frame stands from byte HS_LOG_HEADER_SIZE on. Refusals 50, 52, 51, 53: *frame_len
+ * is unchanged. */
 uint32_t hs_log_read(const uint8_t *record, size_t record_len, size_t *frame_len);
 
-/* Writes the record of a frame. HS_OK: all of record is overwritten. Refusals 50, 52:
+/* Writes the record of a frame, as above. HS_OK: all of record is overwritten. Refusals 50, 52:
  * record is unchanged. */
 uint32_t hs_log_write(const uint8_t *frame, size_t frame_len, uint8_t *record,
                       size_t record_len);

@@ -10,7 +10,7 @@ promises=docs/PROMISES.md
 broken_links() {
     local page link
     for page in README.md docs/*.md docs/*/*.md; do
-        [ -f "$page" ] || continue
+        [ -f "$page" ] || continue # no such folder
         while read -r link; do
             [ -e "$(dirname "$page")/$link" ] || printf '%s: no %s\n' "$page" "$link"
         done < <(grep -oE '\]\([^)#]+' "$page" | cut -c 3- | grep -v '://')
@@ -21,10 +21,9 @@ broken_links() {
 code() { grep -oE '`[^`]+`' "$promises" | tr -d '`'; }
 
 known_names() {
-    find crates rust/*/src rust/*/tests -name '*.antt' -o -name '*.rt' -o -name '*.rs' |
-        xargs grep -ohE "$name"
+    grep -rohE "$name" --include='*.antt' --include='*.rt' --include='*.rs' crates rust/*/src rust/*/tests
     find crates -name '*.edit' -exec basename -a -s .edit {} +
-    find crates rust include docs -name '*.*' -exec basename -a {} + | grep -oE "$name"
+    find crates rust include docs scripts -name target -prune -o -name '*.*' -exec basename -a {} + | grep -oE "$name"
 }
 
 missing_names() {

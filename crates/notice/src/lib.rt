@@ -20,7 +20,7 @@ pub enum Reason {
     BadRing,
     // 21: nothing waits.
     Empty,
-    // 22: what waits does not start with a whole notice.
+    // 22: what waits does not start with a legal notice.
     Damaged,
     // 23: the output is shorter than the data.
     OutputShort,

@@ -20,7 +20,7 @@ use Rattle.reassembly.specs.declared.Reason.the-variants.{BadState}
 use Rattle.reassembly.specs.declared.Verdict.{Verdict}
 use Rattle.reassembly.specs.declared.Verdict.the-variants.{Refused}
 
--- `demand-3`. What each part renders of the mission's third demand:
+-- `demand-3`. What each part renders of demand 3:
 --     Fresh                   "Start fresh,"
 --     buffer                  "with one lent buffer", of any length and with any bytes in it; "that nobody else writes": `run` hands it on
 --     us                      "messages for us": our Receiver ID, always the same

@@ -39,9 +39,12 @@ fn transmit(
     };
     let frames = hoursquall::count(message.len(), PIECE)?;
     println!("message {id}, {} bytes in {frames} frames", message.len());
-    for index in (0..frames).filter(|&index| Some(index) != lost) {
+    for index in 0..frames {
         let mut out = [0; FRAME_MAX];
         let length = hoursquall::write(&envelope, message, PIECE, index, &mut out)?;
+        if Some(index) == lost {
+            continue;
+        }
         print!("  index {index}, {length} bytes: ");
         match state.step(&out[..length], HEAD, buffer) {
             Verdict::More => println!("more wanted"),

@@ -298,7 +298,8 @@ fn message() -> [u8; MESSAGE] {
 }
 
 // Each call hides its arguments from the optimiser, which could otherwise fit the Rust function to
-// them or call it once. What is hidden are numbers and thin pointers: a slice would cost more.
+// them or call it once. In the shortest calls numbers and thin pointers are hidden: a slice would
+// cost more.
 
 #[inline(always)]
 fn call_parse(parse: Parse, frame: &[u8; 256], header: &mut [u32; 6]) -> u32 {

@@ -1,5 +1,6 @@
 //! The C functions with slices and references for pointers, which makes them safe to call. What
 //! each answers is in `include/hoursquall.h`; the crate's other functions say it in Rust's types.
+//! They are inlined, so that what is timed is the C function.
 
 use crate::raw;
 
@@ -185,9 +186,15 @@ pub fn sfi_choose(signature: u32, board: &[u8], built_in: &[u8], length: &mut us
 
 #[inline(always)]
 pub fn log_write(frame: &[u8], record: &mut [u8]) -> u32 {
-    let (start, record_len) = (record.as_mut_ptr(), record.len());
     // SAFETY: each pointer and length are those of one slice; `record` is borrowed exclusively.
-    unsafe { raw::hs_log_write(frame.as_ptr(), frame.len(), start, record_len) }
+    unsafe {
+        raw::hs_log_write(
+            frame.as_ptr(),
+            frame.len(),
+            record.as_mut_ptr(),
+            record.len(),
+        )
+    }
 }
 
 #[inline(always)]
