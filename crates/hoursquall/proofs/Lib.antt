@@ -1,0 +1,2 @@
+-- The theorems on what C keeps between calls.
+pub mod Theorems

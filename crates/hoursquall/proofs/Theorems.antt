@@ -1,0 +1,168 @@
+-- The theorems of `specs/Statements.antt` on the numbers that C keeps between calls.
+--     state-crosses      a state survives the way through the block
+--     positions-cross    so do a ring's positions
+--     state-wide         the state that a block is carries words of 32 bits
+--     read-wide          so does the header of a frame that is read
+--     step-crosses       so does the state after a step, and what C sees of the step is what it hands up
+--     run-crosses        so a run over blocks is a run over states
+--     demand-3-exported  and demand 3 holds of it
+-- Assumes nothing.
+use Prim.Native.Nat.{ℕ, _+_, _-_, _^_, _<_}
+use mathlib.Core.Bool.{Bool, true, false, cond, not, _&&_, _||_}
+use mathlib.Core.Path.{_≡_, refl, ap₂, _∙_}
+use mathlib.Core.List.{List, [], _∷_}
+use native.Mathlib.Omega.{arith}
+use borrow.Author.Tests.{eq-eqb, le-ltb, ltb-false}
+use lib.Dec.{eqb, ltb}
+use lib.ListN.{length, drop, getD}
+use lib.Seq.{getD-drop}
+use Rattle.le.specs.Word.{word, AreBytes}
+use Rattle.le.proofs.Words.{word-below}
+use Rattle.frame.specs.Framing.{All}
+use Rattle.frame.specs.Layout.{headerSize, frameMax, messageMax, typeVersion, headerOf}
+use Rattle.frame.specs.Reading.{parsed, dataOf}
+use Rattle.frame.specs.declared.Header.{Header}
+use Rattle.frame.specs.declared.Words.{Words}
+use Rattle.frame.specs.declared.read.Parsed.{Parsed}
+use Rattle.frame.specs.declared.read.Parsed.the-variants as Parsed
+use Rattle.frame.specs.declared.read.Reason.the-variants.{FrameShort, FrameLong, WrongType, OtherReceiver}
+use Rattle.reassembly.specs.Step.{Stepped, numberOf, consistent, sameWords, stateAfter, refused, landed, taken, accept, begin, isNext, proceed, isFirst, received, stepOf}
+use Rattle.reassembly.specs.Run.{handedUp, run}
+use Rattle.reassembly.specs.Traffic.{calls}
+use Rattle.reassembly.proofs.Theorem.{demand-3}
+use Rattle.reassembly.specs.declared.State.{State}
+use Rattle.reassembly.specs.declared.State.the-variants.{Fresh, Open}
+use Rattle.reassembly.specs.declared.Reason.{Reason}
+use Rattle.reassembly.specs.declared.Reason.the-variants.{Unread, NothingOpen, OutOfOrder, OtherWords, NoData, TooMuchData, MessageLong, BadState}
+use Rattle.hoursquall.specs.Reassembly.{wordMax, stateOf, verdictNumber, wordsAfter}
+use Rattle.hoursquall.specs.Statements.{WideWords, Wide, StateCrosses, stepped, left, upInC, runBlocks, RunCrosses, Demand3Exported, PositionsCross}
+
+-- a number of 32 bits passes the block's test, and only such a one does
+within : (n : ℕ) → n < 2 ^ 32 → ltb wordMax n ≡ false
+within n h = le-ltb wordMax n (omega arith)
+
+below : (n : ℕ) → ltb wordMax n ≡ false → n < 2 ^ 32
+below n e = omega (arith, ltb-false wordMax n e)
+
+pub state-crosses : StateCrosses
+unfolding stateOf
+state-crosses Fresh wide = refl
+state-crosses (Open p) wide = rw (within _ (wide .id), within _ (wide .sender), within _ (wide .status), within _ (wide .total))
+
+pub positions-cross : PositionsCross
+positions-cross id n p before = (refl, refl)
+
+-- what holds of either branch holds of the choice; `unless`: the second branch may count on the test
+either : {A : Type 0} (P : A → Type 0) (b : Bool) {x y : A} → P x → P y → P (cond b x y)
+either P true p q = p
+either P false p q = q
+
+unless : {A : Type 0} (P : A → Type 0) (b : Bool) {x y : A} → P x → (b ≡ false → P y) → P (cond b x y)
+unless P true p q = p
+unless P false p q = q refl
+
+-- the words of `noState`
+none-wide : WideWords (record { id = 0; sender = 0; status = 0; total = 0 })
+none-wide = record { id = omega arith; sender = omega arith; status = omega arith; total = omega arith }
+
+state-wide : (block : List ℕ) → Wide (stateOf block)
+unfolding stateOf
+state-wide b =
+    either Wide (eqb (getD b 0 0) 0) tt
+    (either Wide (not (eqb (getD b 0 0) 1)) none-wide
+    (unless Wide (ltb wordMax (getD b 1 0)) none-wide (λ id.
+    unless Wide (ltb wordMax (getD b 2 0)) none-wide (λ sender.
+    unless Wide (ltb wordMax (getD b 3 0)) none-wide (λ status.
+    unless Wide (ltb wordMax (getD b 4 0)) none-wide (λ total.
+    record { id = below _ id; sender = below _ sender; status = below _ status; total = below _ total }))))))
+
+-- the words of a header, if one is read, are of 32 bits
+abbrev WideRead : Parsed → Type 0
+WideRead (Parsed.Header h) = WideWords (h .words)
+WideRead (Parsed.Refused reason) = Unit {0}
+
+word-wide : (f : List ℕ) → AreBytes f → (at : ℕ) → word 4 (drop at f) < 2 ^ 32
+word-wide f are at = omega (arith, word-below 4 (drop at f) (λ i. rw (getD-drop at f i 0) (are (at + i))))
+
+read-wide : (us : ℕ) (f : List ℕ) → AreBytes f → WideRead (parsed us f)
+unfolding parsed
+read-wide us f are =
+    either WideRead (ltb (length f) headerSize) tt
+    (either WideRead (ltb frameMax (length f)) tt
+    (either WideRead (not (eqb (word 1 f) typeVersion)) tt
+    (either WideRead (not (eqb (headerOf f .receiver) us)) tt
+    (record { id = word-wide f are 4; sender = word-wide f are 8; status = word-wide f are 16; total = word-wide f are 20 }))))
+
+-- no refusal has the number 100
+not-100 : (reason : Reason) → eqb (numberOf reason) 100 ≡ false
+not-100 (Unread FrameShort) = refl
+not-100 (Unread FrameLong) = refl
+not-100 (Unread WrongType) = refl
+not-100 (Unread OtherReceiver) = refl
+not-100 NothingOpen = refl
+not-100 OutOfOrder = refl
+not-100 OtherWords = refl
+not-100 NoData = refl
+not-100 TooMuchData = refl
+not-100 MessageLong = refl
+not-100 BadState = refl
+
+-- what is wanted of a step: the state after it carries words of 32 bits, and what C sees of it is what it hands up
+record Crosses (before : List ℕ) (st : Stepped) : Type 0 where
+  wide : Wide (st .answer .state)
+  seen : upInC (verdictNumber (st .answer .verdict)) (wordsAfter (st .answer .verdict) before) (st .buffer) ≡ handedUp (st .answer .verdict) (st .buffer)
+
+module _ (before : List ℕ) where
+  refuses : (reason : Reason) (s : State) (b : List ℕ) → Wide (stateAfter reason s) → Crosses before (refused reason s b)
+  refuses reason s b wide = record { wide = wide; seen = rw (not-100 reason) }
+
+  takes : (w : Words) → WideWords w → (i filled : ℕ) (b : List ℕ) → Crosses before (taken w i filled b)
+  takes w wide i filled b = either (Crosses before) (eqb filled (w .total)) (record { wide = tt; seen = refl }) (record { wide = wide; seen = refl })
+
+  accepts : (w : Words) → WideWords w → (i filled : ℕ) (piece b : List ℕ) → Crosses before (accept w i filled piece b)
+  unfolding accept
+  accepts w wide i filled piece b =
+      either (Crosses before) (eqb (length piece) 0 && not (eqb (w .total) 0)) (refuses NoData Fresh b tt)
+      (either (Crosses before) (ltb (w .total - filled) (length piece)) (refuses TooMuchData Fresh b tt)
+      (takes w wide i (filled + length piece) (landed filled piece b)))
+
+  begins : (w : Words) → WideWords w → (piece b : List ℕ) → Crosses before (begin w piece b)
+  unfolding begin
+  begins w wide piece b =
+      either (Crosses before) (ltb messageMax (w .total) || ltb (length b) (w .total)) (refuses MessageLong Fresh b tt)
+      (accepts w wide 0 0 piece b)
+
+  proceeds : (h : Header) (piece : List ℕ) (s : State) → Wide s → (b : List ℕ) → Crosses before (proceed h piece s b)
+  unfolding proceed
+  proceeds h piece Fresh wide b = refuses NothingOpen Fresh b tt
+  proceeds h piece (Open p) wide b =
+      either (Crosses before) (not (isNext h p)) (refuses OutOfOrder (Open p) b tt)
+      (either (Crosses before) (not (sameWords (h .words) (p .words))) (refuses OtherWords (Open p) b tt)
+      (accepts (p .words) wide (p .next) (p .filled) piece b))
+
+  receives : (r : Parsed) → WideRead r → (piece : List ℕ) (s : State) → Wide s → (b : List ℕ) → Crosses before (received r piece s b)
+  unfolding received
+  receives (Parsed.Refused reason) read piece s wide b = refuses (Unread reason) s b wide
+  receives (Parsed.Header h) read piece s wide b =
+      either (Crosses before) (isFirst h) (begins (h .words) read piece b) (proceeds h piece s wide b)
+
+  step-crosses : (us : ℕ) (s : State) → Wide s → (b f : List ℕ) → AreBytes f → Crosses before (stepOf us s b f)
+  unfolding stepOf
+  step-crosses us s wide b f are =
+      either (Crosses before) (not (consistent s (length b))) (refuses BadState s b tt)
+      (receives (parsed us f) (read-wide us f are) (dataOf f) s wide b)
+
+pub run-crosses : RunCrosses
+unfolding runBlocks run
+run-crosses us lent [] are = refl
+run-crosses us lent (f ∷ fs) are =
+    let st = stepped us lent f in
+    let crosses = step-crosses (lent .words) us (stateOf (lent .block)) (state-wide (lent .block)) (lent .buffer) f (are .0) in
+    let kept = state-crosses (st .answer .state) (crosses .wide) in
+    ap₂ _∷_ (crosses .seen) (rw kept at (run-crosses us (left us lent f) fs (are .1)))
+
+pub demand-3-exported : Demand3Exported
+unfolding stateOf
+demand-3-exported us lent traffic fits fresh legal are =
+    let starts : stateOf (lent .block) ≡ Fresh = rw (eq-eqb (getD (lent .block) 0 0) 0 fresh) in
+    (rw starts at (run-crosses us lent (calls us traffic) are)) ∙ demand-3 us (lent .buffer) traffic fits legal
