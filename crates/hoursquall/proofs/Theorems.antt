@@ -34,8 +34,8 @@ use Rattle.reassembly.specs.declared.State.{State}
 use Rattle.reassembly.specs.declared.State.the-variants.{Fresh, Open}
 use Rattle.reassembly.specs.declared.Reason.{Reason}
 use Rattle.reassembly.specs.declared.Reason.the-variants.{Unread, NothingOpen, OutOfOrder, OtherWords, NoData, TooMuchData, MessageLong, BadState}
-use Rattle.hoursquall.specs.Reassembly.{wordMax, stateOf, verdictNumber, wordsAfter}
-use Rattle.hoursquall.specs.Statements.{WideWords, Wide, StateCrosses, stepped, left, upInC, runBlocks, RunCrosses, Demand3Exported, PositionsCross}
+use Rattle.hoursquall.specs.Reassembly.{wordMax, stateOf, verdictNumber, wordsAfter, stepped, left}
+use Rattle.hoursquall.specs.Statements.{WideWords, Wide, StateCrosses, upInC, runBlocks, RunCrosses, Demand3Exported, PositionsCross}
 
 -- a number of 32 bits passes the block's test, and only such a one does
 within : (n : ℕ) → n < 2 ^ 32 → ltb wordMax n ≡ false

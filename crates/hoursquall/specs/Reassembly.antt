@@ -52,3 +52,28 @@ abbrev pub wordsAfter : Verdict → List ℕ → List ℕ
 wordsAfter More before = before
 wordsAfter (Delivered w n) before = w .id ∷ w .sender ∷ w .status ∷ w .total ∷ []
 wordsAfter (Refused reason) before = before
+
+-- what a caller of `hs_reassembly_step` lends to each call: the state's block, the buffer, and the place of the carried words
+pub record Lent : Type 0 where
+  pub block : List ℕ
+  pub buffer : List ℕ
+  pub words : List ℕ
+
+abbrev pub lending : List ℕ → List ℕ → List ℕ → Lent
+lending block buffer words = record { block = block; buffer = buffer; words = words }
+
+-- the step that the call takes
+abbrev pub stepped : ℕ → Lent → List ℕ → Step.Stepped
+stepped us lent frame = Step.stepOf us (stateOf (lent .block)) (lent .buffer) frame
+
+-- what the call answers, and what it leaves
+abbrev pub answered : ℕ → Lent → List ℕ → ℕ
+answered us lent frame = verdictNumber (stepped us lent frame .answer .verdict)
+
+abbrev pub left : ℕ → Lent → List ℕ → Lent
+left us lent frame =
+    record {
+      block = blockOf (stepped us lent frame .answer .state);
+      buffer = stepped us lent frame .buffer;
+      words = wordsAfter (stepped us lent frame .answer .verdict) (lent .words);
+    }

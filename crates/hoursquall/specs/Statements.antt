@@ -10,7 +10,6 @@ use lib.ListN.{length, take, getD}
 use Rattle.le.specs.Word.{AreBytes}
 use Rattle.frame.specs.Framing.{All}
 use Rattle.frame.specs.declared.Words.{Words}
-use Rattle.reassembly.specs.Step.{Stepped, stepOf}
 use Rattle.reassembly.specs.Run.{HandedUp, run}
 use Rattle.reassembly.specs.Traffic.{Traffic, LegalTraffic, calls, expected}
 use Rattle.reassembly.specs.declared.State.{State}
@@ -18,7 +17,7 @@ use Rattle.reassembly.specs.declared.State.the-variants.{Fresh, Open}
 use Rattle.notice.specs.declared.Positions.{Positions}
 use Rattle.notice.specs.declared.Posted.the-variants.{Stored}
 use Rattle.notice.specs.declared.Taken.the-variants.{Notice}
-use Rattle.hoursquall.specs.Reassembly.{stateOf, blockOf, verdictNumber, wordsAfter}
+use Rattle.hoursquall.specs.Reassembly.{stateOf, blockOf, Lent, answered, left}
 use Rattle.hoursquall.specs.Notice.{positionsOf, positionsAfterPost, positionsAfterTake}
 
 -- the carried words are of 32 bits, as each `u32` is
@@ -36,27 +35,6 @@ Wide (Open p) = WideWords (p .words)
 -- bytes are filled.
 abbrev pub StateCrosses : Type 0
 StateCrosses = (s : State) → Wide s → stateOf (blockOf s) ≡ s
-
--- what a caller of `hs_reassembly_step` lends to each call: the state's block, the buffer, and the place of the carried words
-pub record Lent : Type 0 where
-  pub block : List ℕ
-  pub buffer : List ℕ
-  pub words : List ℕ
-
-abbrev pub stepped : ℕ → Lent → List ℕ → Stepped
-stepped us lent frame = stepOf us (stateOf (lent .block)) (lent .buffer) frame
-
--- what the call answers, and what it leaves: the four promises of `hs_reassembly_step`
-abbrev pub answered : ℕ → Lent → List ℕ → ℕ
-answered us lent frame = verdictNumber (stepped us lent frame .answer .verdict)
-
-abbrev pub left : ℕ → Lent → List ℕ → Lent
-left us lent frame =
-    record {
-      block = blockOf (stepped us lent frame .answer .state);
-      buffer = stepped us lent frame .buffer;
-      words = wordsAfter (stepped us lent frame .answer .verdict) (lent .words);
-    }
 
 -- what C hands up after an answer: with 100 the four words and the buffer's first bytes, as many as the fourth word says, else nothing
 abbrev pub upInC : ℕ → List ℕ → List ℕ → Option HandedUp

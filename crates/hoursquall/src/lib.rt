@@ -5,7 +5,6 @@ ghost use mathlib.Core.Path.{_≡_};
 ghost use Rattle.le.specs.Sum.{sum};
 ghost use Rattle.frame.specs.Reading.{parsed};
 ghost use Rattle.frame.specs.Writing.{counted, written, outputAfter};
-ghost use Rattle.reassembly.specs.Step.{stepOf};
 ghost use Rattle.notice.specs.Ring as Ring;
 ghost use Rattle.ubios.specs.Layout.{tableHeader};
 ghost use Rattle.ubios.specs.Checks.{checked, rootChecked};
@@ -17,7 +16,7 @@ ghost use Rattle.framelog.specs.Layout.{recordSize};
 ghost use Rattle.framelog.specs.Reading.{readOf};
 ghost use Rattle.framelog.specs.Writing as LogWriting;
 ghost use Rattle.hoursquall.specs.FrameLog as Log;
-ghost use Rattle.hoursquall.specs.Reassembly.{stateOf, blockOf, verdictNumber, wordsAfter};
+ghost use Rattle.hoursquall.specs.Reassembly.{lending, answered, left};
 ghost use Rattle.hoursquall.specs.Frame.{parseNumber, headerAfter, countNumber, countAfter, writeNumber, lengthAfter, envelopeOf};
 ghost use Rattle.hoursquall.specs.Notice.{positionsOf, postNumber, positionsAfterPost, takeNumber, positionsAfterTake, idAfter, dataLengthAfter};
 ghost use Rattle.hoursquall.specs.Ubios.{tableNumber, partAfter, rootNumber, rootPartAfter, findNumber, bodyAfter};
@@ -137,10 +136,10 @@ pub extern "C" fn hs_reassembly_step(
     buffer: &mut [u8],
     words: &mut [u32; 4],
 ) -> u32
-    ensures { λ r. ⌜ r ≡ verdictNumber (stepOf us (stateOf (now (state .entry))) (now (buffer .entry)) (now (frame .entry)) .answer .verdict) ⌝ }
-    ensures { λ _. ⌜ now (state .exit) ≡ blockOf (stepOf us (stateOf (now (state .entry))) (now (buffer .entry)) (now (frame .entry)) .answer .state) ⌝ }
-    ensures { λ _. ⌜ now (buffer .exit) ≡ stepOf us (stateOf (now (state .entry))) (now (buffer .entry)) (now (frame .entry)) .buffer ⌝ }
-    ensures { λ _. ⌜ now (words .exit) ≡ wordsAfter (stepOf us (stateOf (now (state .entry))) (now (buffer .entry)) (now (frame .entry)) .answer .verdict) (now (words .entry)) ⌝ }
+    ensures { λ r. ⌜ r ≡ answered us (lending (now (state .entry)) (now (buffer .entry)) (now (words .entry))) (now (frame .entry)) ⌝ }
+    ensures { λ _. ⌜ now (state .exit) ≡ left us (lending (now (state .entry)) (now (buffer .entry)) (now (words .entry))) (now (frame .entry)) .block ⌝ }
+    ensures { λ _. ⌜ now (buffer .exit) ≡ left us (lending (now (state .entry)) (now (buffer .entry)) (now (words .entry))) (now (frame .entry)) .buffer ⌝ }
+    ensures { λ _. ⌜ now (words .exit) ≡ left us (lending (now (state .entry)) (now (buffer .entry)) (now (words .entry))) (now (frame .entry)) .words ⌝ }
 {
     let block = *state;
     let answer = reassembly::step(state_of(block), frame, us, buffer);
