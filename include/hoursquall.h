@@ -309,8 +309,8 @@ uint32_t hs_sfi_choose(uint32_t signature, const uint8_t *board, size_t board_le
  * is unchanged. */
 uint32_t hs_log_read(const uint8_t *record, size_t record_len, size_t *frame_len);
 
-/* Writes the record of a frame, as above. HS_OK: all of record is overwritten. Refusals 50, 52:
- * record is unchanged. */
+/* Writes the record of a frame, as above. HS_OK: all of record is overwritten.
+ * Refusals 50, 52: record is unchanged. */
 uint32_t hs_log_write(const uint8_t *frame, size_t frame_len, uint8_t *record,
                       size_t record_len);
 

@@ -1,4 +1,4 @@
--- What is proved of records, of every size that is one. The proofs are in `proofs/Theorems.antt`, under the names given here.
+-- What is proved of records of every legal size (`Size`). The proofs are in `proofs/Theorems.antt`, under the names given here.
 -- Assumes nothing.
 use Prim.Native.Nat.{ℕ, _^_, _≤_, _<_}
 use mathlib.Core.Path.{_≡_}
