@@ -1,17 +1,17 @@
--- What follows for states and runs: `stays-consistent`, `never-bad`, `refusal-leaves`, `never-in-vain`, `sent-is-framed`, `framed-is-sent`,
--- `written-is-handed-up`.
+-- What follows for states and runs: `exactly-these`, `put-in-exactly`, `stays-consistent`, `never-bad`, `refusal-leaves`, `never-in-vain`,
+-- `sent-is-framed`, `framed-is-sent`, `written-is-handed-up`.
 -- Assumes nothing.
 use Prim.Native.Nat.{ℕ, zero, suc, _+_, _-_, _^_, _≤_, _<_}
-use mathlib.Core.Bool.{Bool, true, false}
+use mathlib.Core.Bool.{Bool, true, false, cond}
 use mathlib.Core.Path.{_≡_, refl, sym, ap, ap₂, _∙_}
-use mathlib.Core.List.{List, [], _∷_, _++_, map, flatten}
-use mathlib.Core.Option.{Option, none, some}
+use mathlib.Core.List.{List, [], _∷_, _++_, map, flatten, filterMap, filterMap-append}
+use mathlib.Core.Option.{Option, none, some, Option·elim}
 use native.Mathlib.Nat.{pos-of-ne-zero}
 use native.Mathlib.Omega.{arith}
 use borrow.Author.Tests.{ltb-true, ltb-false, eqb-true, eqb-false, eq-eqb, le-leb, not-false}
 use lib.Dec.{ltb, eqb}
 use lib.ListN.{length, replicate}
-use Rattle.le.proofs.Tests.{apart}
+use Rattle.le.proofs.Tests.{apart, both}
 use Rattle.frame.specs.Layout.{messageMax, headerFor, frameOf}
 use Rattle.frame.specs.Reading as Reading
 use Rattle.frame.specs.Reading.{parsed, dataOf}
@@ -26,10 +26,10 @@ use Rattle.frame.specs.declared.read.Reason.{Reason as ReadReason}
 use Rattle.frame.specs.declared.read.Reason.the-variants.{FrameShort, FrameLong, WrongType, OtherReceiver}
 use Rattle.frame.proofs.Theorems.{writes-a-framing}
 use Rattle.reassembly.specs.Step.{Stepped, numberOf, consistent, sameWords, stateAfter, refused, waiting, landed, delivered, wanting, isNext, isFirst, accept, begin, proceed, stepOf}
-use Rattle.reassembly.specs.Run.{HandedUp, handedUp, run, verdicts}
-use Rattle.reassembly.specs.Traffic.{Message, Sent, Transmission, Traffic, PutIn, Legal, envelopeFor, callsFrom, callsOf, calls, allArrive, asSent, expectedFrom, gives, expectedOf, expected}
+use Rattle.reassembly.specs.Run.{HandedUp, handedUp, run, messages, verdicts}
+use Rattle.reassembly.specs.Traffic.{Message, Sent, Transmission, Traffic, PutIn, FirstArrives, Legal, envelopeFor, callsFrom, callsOf, calls, allArrive, asSent, nothing, ifLast, expectedFrom, gives, arrived, expectedOf, expected}
 use Rattle.reassembly.specs.Helpers.{lacksData}
-use Rattle.reassembly.specs.Statements.{NotBad, StaysConsistent, NeverBad, RefusalLeaves, untouched, SentIsFramed, FramedIsSent, NeverInVain, Outgoing, LegalOutgoing, framesOf, handsUp, WrittenIsHandedUp}
+use Rattle.reassembly.specs.Statements.{ExactlyThese, PutInExactly, NotBad, StaysConsistent, NeverBad, RefusalLeaves, untouched, SentIsFramed, FramedIsSent, NeverInVain, Outgoing, LegalOutgoing, framesOf, handsUp, WrittenIsHandedUp}
 use Rattle.reassembly.specs.declared.Progress.{Progress}
 use Rattle.reassembly.specs.declared.State.{State}
 use Rattle.reassembly.specs.declared.State.the-variants.{Fresh, Open}
@@ -38,8 +38,58 @@ use Rattle.reassembly.specs.declared.Reason.the-variants.{Unread, Nothin
 use Rattle.reassembly.specs.declared.Verdict.{Verdict}
 use Rattle.reassembly.specs.declared.Verdict.the-variants.{Refused}
 use Rattle.reassembly.proofs.Answers.{fresh, by-room, consistent-open, lacking, excess, data-taken, whole, not-whole, over-limit, over-buffer, begins, none-open, other-index, other-words, goes-on, bad-state, unread-frame, index-zero, index-more}
-use Rattle.reassembly.proofs.Steps.{length-landed}
-use Rattle.reassembly.proofs.Theorem.{Ready, Continues, all-messages, demand-3}
+use Rattle.reassembly.proofs.Steps.{unread, unread-only, length-landed}
+use Rattle.reassembly.proofs.Theorem.{Ready, Continues, never-last, all-messages, demand-3}
+
+-- entry by entry: only the last frame of a message that lost none hands it up
+none-up : (js : List (List ℕ)) → messages (nothing js) ≡ []
+unfolding filterMap
+none-up [] = refl
+none-up (j ∷ js) = none-up js
+
+frame-up : (s : Sent) (a : Bool) (o : Option HandedUp) (rest : List (Option HandedUp))
+    → messages (nothing (s .before) ++ (cond a (o ∷ []) [] ++ rest)) ≡ messages (cond a (o ∷ []) []) ++ messages rest
+frame-up s a o rest = rw (filterMap-append, filterMap-append, none-up)
+
+lost-up : (ss : List Sent) → messages (expectedFrom none ss) ≡ []
+unfolding expectedFrom filterMap
+lost-up [] = refl
+lost-up (s ∷ ss) = frame-up s (s .arrives) (ifLast ss none) (expectedFrom none ss) ∙ go (s .arrives) ∙ lost-up ss
+  where
+    go : (a : Bool) → messages (cond a (ifLast ss none ∷ []) []) ++ messages (expectedFrom none ss) ≡ messages (expectedFrom none ss)
+    go true = rw (never-last ss)
+    go false = refl
+
+whole-up : (m : HandedUp) (s : Sent) (ss : List Sent) → allArrive (s ∷ ss) ≡ true → messages (expectedFrom (some m) (s ∷ ss)) ≡ m ∷ []
+unfolding expectedFrom filterMap allArrive
+whole-up m s [] all =
+    frame-up s (s .arrives) (some m) [] ∙ rw (both (s .arrives) true all .0)
+whole-up m s (r ∷ ss) all =
+    let arrive = both (s .arrives) (allArrive (r ∷ ss)) all in
+    frame-up s (s .arrives) none (expectedFrom (some m) (r ∷ ss)) ∙ rw (arrive .0) (whole-up m r ss (arrive .1))
+
+message-up : (t : Transmission) → FirstArrives (t .frames) → (rest : List HandedUp)
+    → messages (expectedFrom (gives t) (t .frames)) ++ rest ≡ Option·elim (gives t) rest (λ m. m ∷ rest)
+unfolding Option·elim
+message-up t first rest = go (t .frames) first (allArrive (t .frames)) refl
+  where
+    go : (ss : List Sent) → FirstArrives ss → (all : Bool) → allArrive ss ≡ all
+        → messages (expectedFrom (cond all (some (asSent (t .message))) none) ss) ++ rest
+        ≡ Option·elim (cond all (some (asSent (t .message))) none) rest (λ m. m ∷ rest)
+    go [] first all e = absurd first
+    go (s ∷ ss) first true e = rw (whole-up (asSent (t .message)) s ss e)
+    go (s ∷ ss) first false e = rw (lost-up (s ∷ ss))
+
+all-up : (us room : ℕ) (ts : List Transmission) (js : List (List ℕ)) → All (Legal us room) ts → messages (expectedOf ts js) ≡ arrived ts
+unfolding expectedOf filterMap
+all-up us room [] js legal = none-up js
+all-up us room (t ∷ ts) js legal =
+    filterMap-append (λ e. e) (expectedFrom (gives t) (t .frames)) (expectedOf ts js)
+    ∙ ap (λ (l : List HandedUp). messages (expectedFrom (gives t) (t .frames)) ++ l) (all-up us room ts js (legal .1))
+    ∙ message-up t (legal .0 .first-arrives) (arrived ts)
+
+pub exactly-these : ExactlyThese
+exactly-these us b t fits legal = ap messages (demand-3 us b t fits legal) ∙ all-up us (length b) (t .sent) (t .after) (legal .all)
 
 -- what a step from a fresh or consistent state can come to: a refusal other than 11, a message, or an open state that is consistent again
 data Outcome (s : State) (b : List ℕ) : Stepped → Type 0 where
@@ -144,14 +194,20 @@ never-bad us s b (f ∷ fs) ok =
     (after .0, never-bad us (stepOf us s b f .answer .state) (stepOf us s b f .buffer) fs (rw (after .2) (after .1)))
 
 -- the numbers of a frame that does not parse
-small : (reason : ReadReason) → Reading.numberOf reason ≤ 4
-small FrameShort = omega arith
-small FrameLong = omega arith
-small WrongType = omega arith
-small OtherReceiver = omega arith
+small : (reason : ReadReason) → (1 ≤ Reading.numberOf reason) × (Reading.numberOf reason ≤ 4)
+small FrameShort = (omega arith, omega arith)
+small FrameLong = (omega arith, omega arith)
+small WrongType = (omega arith, omega arith)
+small OtherReceiver = (omega arith, omega arith)
+
+pub put-in-exactly : PutInExactly
+put-in-exactly us f = (
+  (λ h. let r = unread us f h in record { reason = r .0; refused = r .1; least = small (r .0) .0; most = small (r .0) .1 }),
+  (λ u. unread-only us f (u .reason) (u .refused)),
+)
 
 column : (reason : Reason) (s : State) → (numberOf reason ≤ 4 → stateAfter reason s ≡ s) × (5 ≤ numberOf reason → stateAfter reason s ≡ Fresh)
-column (Unread reason) s = ((λ h. refl), (λ h. absurd (omega (arith, small reason))))
+column (Unread reason) s = ((λ h. refl), (λ h. absurd (omega (arith, small reason .1))))
 column NothingOpen s = ((λ h. absurd (omega arith)), (λ h. refl))
 column OutOfOrder s = ((λ h. absurd (omega arith)), (λ h. refl))
 column OtherWords s = ((λ h. absurd (omega arith)), (λ h. refl))

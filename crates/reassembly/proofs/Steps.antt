@@ -17,6 +17,7 @@ use Rattle.frame.specs.Statements.{Fits}
 use Rattle.frame.specs.declared.Envelope.{Envelope}
 use Rattle.frame.specs.declared.Header.{Header}
 use Rattle.frame.specs.declared.Words.{Words}
+use Rattle.frame.specs.declared.read.Parsed.{Parsed}
 use Rattle.frame.specs.declared.read.Parsed.the-variants as Parsed
 use Rattle.frame.specs.declared.read.Reason.{Reason}
 use Rattle.frame.specs.declared.read.Reason.the-variants.{FrameShort, FrameLong, WrongType, OtherReceiver}
@@ -32,30 +33,37 @@ use Rattle.reassembly.specs.declared.Reason.the-variants.{Unread, Nothin
 use Rattle.reassembly.specs.declared.Verdict.the-variants.{Refused}
 use Rattle.reassembly.proofs.Answers.{data-taken, begins, none-open, other-index, goes-on, unread-frame, index-zero, index-more}
 
--- a frame of which a condition 1 to 4 holds does not parse
-unread : (us : ℕ) (f : List ℕ) → PutIn us f → (reason : Reason) × (parsed us f ≡ Parsed.Refused reason)
-unfolding parsed
-unread us f h =
-    go
-    (ltb (length f) headerSize)
-    (ltb frameMax (length f))
-    (not (eqb (word 1 f) typeVersion))
-    (not (eqb (headerOf f .receiver) us))
-    (headerOf f)
-    h
-  where
-    go : (short long other-type other : Bool) (h : Header) → short || (long || (other-type || other)) ≡ true
-        → (reason : Reason)
-        × (cond short (Parsed.Refused FrameShort)
-        (cond long (Parsed.Refused FrameLong)
-        (cond other-type (Parsed.Refused WrongType)
-        (cond other (Parsed.Refused OtherReceiver) (Parsed.Header h))))
-        ≡ Parsed.Refused reason)
-    go true long other-type other h q = (FrameShort, refl)
-    go false true other-type other h q = (FrameLong, refl)
-    go false false true other h q = (WrongType, refl)
-    go false false false true h q = (OtherReceiver, refl)
-    go false false false false h q = apart (cc)
+-- a frame of which a condition 1 to 4 holds does not parse, and of each that does not one holds
+module _ (us : ℕ) (f : List ℕ) where
+  abbrev by-tests : Bool → Bool → Bool → Bool → Parsed
+  by-tests short long other-type other =
+      cond short (Parsed.Refused FrameShort)
+      (cond long (Parsed.Refused FrameLong)
+      (cond other-type (Parsed.Refused WrongType)
+      (cond other (Parsed.Refused OtherReceiver) (Parsed.Header (headerOf f)))))
+
+  pub unread : PutIn us f → (reason : Reason) × (parsed us f ≡ Parsed.Refused reason)
+  unfolding parsed
+  unread h = go (ltb (length f) headerSize) (ltb frameMax (length f)) (not (eqb (word 1 f) typeVersion)) (not (eqb (headerOf f .receiver) us)) h
+    where
+      go : (short long other-type other : Bool) → short || (long || (other-type || other)) ≡ true
+          → (reason : Reason) × (by-tests short long other-type other ≡ Parsed.Refused reason)
+      go true long other-type other q = (FrameShort, refl)
+      go false true other-type other q = (FrameLong, refl)
+      go false false true other q = (WrongType, refl)
+      go false false false true q = (OtherReceiver, refl)
+      go false false false false q = apart (cc)
+
+  pub unread-only : (reason : Reason) → parsed us f ≡ Parsed.Refused reason → PutIn us f
+  unfolding parsed
+  unread-only reason h = go (ltb (length f) headerSize) (ltb frameMax (length f)) (not (eqb (word 1 f) typeVersion)) (not (eqb (headerOf f .receiver) us)) h
+    where
+      go : (short long other-type other : Bool) → by-tests short long other-type other ≡ Parsed.Refused reason → short || (long || (other-type || other)) ≡ true
+      go true long other-type other q = refl
+      go false true other-type other q = refl
+      go false false true other q = refl
+      go false false false true q = refl
+      go false false false false q = apart (cc)
 
 module _ (us : ℕ) (s : State) (b : List ℕ) (ok : consistent s (length b) ≡ true) where
   -- a frame that was put in changes nothing

@@ -50,7 +50,7 @@ long : (s : Sent) (ss : List Sent) → length (flatten (pieces (s ∷ ss))) ≡ 
 unfolding flatten
 long s ss = length-append (s .piece) (flatten (pieces ss))
 
-never-last : (ss : List Sent) → ifLast ss none ≡ none
+pub never-last : (ss : List Sent) → ifLast ss none ≡ none
 never-last [] = refl
 never-last (s ∷ ss) = refl
 

@@ -2,7 +2,7 @@
 -- proofs owe").
 -- Assumes nothing.
 use Prim.Native.Nat.{ℕ}
-use mathlib.Core.List.{List, [], _∷_}
+use mathlib.Core.List.{List, [], _∷_, filterMap}
 use mathlib.Core.Option.{Option, none, some}
 use lib.ListN.{take}
 use Rattle.frame.specs.declared.Words.{Words}
@@ -29,6 +29,10 @@ run us state buffer [] = []
 run us state buffer (frame ∷ frames) =
     handedUp (stepOf us state buffer frame .answer .verdict) (stepOf us state buffer frame .buffer)
     ∷ run us (stepOf us state buffer frame .answer .state) (stepOf us state buffer frame .buffer) frames
+
+-- the messages among these entries, in order
+abbrev pub messages : List (Option HandedUp) → List HandedUp
+messages entries = filterMap (λ e. e) entries
 
 -- what each call of the list answers
 unfoldable pub verdicts : ℕ → State → List ℕ → List (List ℕ) → List Verdict

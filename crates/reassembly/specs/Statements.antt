@@ -7,12 +7,16 @@ use mathlib.Core.List.{List, [], _∷_, _++_, map, flatten}
 use mathlib.Core.Option.{Option, none, some}
 use lib.ListN.{length, replicate}
 use Rattle.frame.specs.Framing.{All, Framing}
+use Rattle.frame.specs.Reading as Reading
+use Rattle.frame.specs.Reading.{parsed}
 use Rattle.frame.specs.Statements.{countUp}
 use Rattle.frame.specs.Writing.{counted, frameAt}
+use Rattle.frame.specs.declared.read.Parsed.the-variants as Parsed
+use Rattle.frame.specs.declared.read.Reason.{Reason as ReadReason}
 use Rattle.frame.specs.declared.write.Counted.the-variants.{Frames}
 use Rattle.reassembly.specs.Step.{numberOf, consistent, stepOf}
-use Rattle.reassembly.specs.Run.{HandedUp, run, verdicts}
-use Rattle.reassembly.specs.Traffic.{Message, Sent, Transmission, Traffic, Legal, LegalTraffic, envelopeFor, callsFrom, calls, asSent, expected}
+use Rattle.reassembly.specs.Run.{HandedUp, run, messages, verdicts}
+use Rattle.reassembly.specs.Traffic.{Message, Sent, Transmission, Traffic, PutIn, Legal, LegalTraffic, envelopeFor, callsFrom, calls, asSent, arrived, expected}
 use Rattle.reassembly.specs.declared.State.{State}
 use Rattle.reassembly.specs.declared.State.the-variants.{Fresh}
 use Rattle.reassembly.specs.declared.Reason.{Reason}
@@ -40,6 +44,25 @@ Demand3 =
     → us < 2 ^ 32
     → LegalTraffic us (length buffer) traffic
     → run us Fresh buffer (calls us traffic) ≡ expected traffic
+
+-- `exactly-these`. Demand 3's last sentence by itself: "what is handed up is exactly the messages that lost no frame, each once, in order, with bytes and
+-- carried words as sent". The entries of such a run that are handed up are, in order, the messages all of whose frames arrive, as sent.
+abbrev pub ExactlyThese : Type 0
+ExactlyThese =
+    (us : ℕ) (buffer : List ℕ) (traffic : Traffic)
+    → us < 2 ^ 32
+    → LegalTraffic us (length buffer) traffic
+    → messages (run us Fresh buffer (calls us traffic)) ≡ arrived (traffic .sent)
+
+-- `put-in-exactly`. "frames refused under numbers 1 to 4": a frame may be put in exactly where the reader refuses it, and its refusals are 1 to 4.
+pub record Unreadable (us : ℕ) (frame : List ℕ) : Type 0 where
+  pub reason : ReadReason
+  pub refused : parsed us frame ≡ Parsed.Refused reason
+  pub least : 1 ≤ Reading.numberOf reason
+  pub most : Reading.numberOf reason ≤ 4
+
+abbrev pub PutInExactly : Type 0
+PutInExactly = (us : ℕ) (frame : List ℕ) → (PutIn us frame → Unreadable us frame) × (Unreadable us frame → PutIn us frame)
 
 -- `sent-is-framed`. What is sent is a framing in the sense of `frame`: of a legal transmission the calls, had nothing been taken out or put in, are one.
 abbrev pub untouched : List Sent → List Sent

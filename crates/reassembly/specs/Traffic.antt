@@ -4,7 +4,7 @@
 use Prim.Native.Nat.{ℕ, suc, _^_, _≤_, _<_}
 use mathlib.Core.Bool.{Bool, true, cond, not, _&&_, _||_}
 use mathlib.Core.Path.{_≡_}
-use mathlib.Core.List.{List, [], _∷_, _++_, map}
+use mathlib.Core.List.{List, [], _∷_, _++_, map, filterMap}
 use mathlib.Core.Option.{Option, none, some}
 use lib.Dec.{ltb, eqb}
 use lib.ListN.{length}
@@ -111,6 +111,10 @@ expectedFrom up (s ∷ ss) = nothing (s .before) ++ (cond (s .arrives) (ifLast s
 -- a message that lost a frame gives nothing
 abbrev pub gives : Transmission → Option HandedUp
 gives t = cond (allArrive (t .frames)) (some (asSent (t .message))) none
+
+-- the messages all of whose frames arrive, in order, as sent
+abbrev pub arrived : List Transmission → List HandedUp
+arrived ts = filterMap gives ts
 
 unfoldable pub expectedOf : List Transmission → List (List ℕ) → List (Option HandedUp)
 expectedOf [] after = nothing after
