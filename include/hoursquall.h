@@ -6,7 +6,9 @@
  * What every caller owes: a pointer is not null, also with a length of 0; it is
  * aligned, and points to as many values as its length or its array type says,
  * readable, and writable unless it is const. Nothing that is written through one
- * pointer may overlap what another one points to. */
+ * pointer may overlap what another one points to. During a call nobody else writes what
+ * is lent to it, or reads what it may write: what two threads or two processors share,
+ * as a ring may be, needs a lock of the caller's own around each call. */
 #ifndef HOURSQUALL_H
 #define HOURSQUALL_H
 
@@ -186,8 +188,8 @@ uint32_t hs_frame_write(uint32_t id, uint32_t sender, uint32_t status,
  * state[0] is 1: open, with the four words as above, the next Index, and the number of
  * bytes filled. It is consistent if each word is below 2^32, 1 <= next <= filled < Data
  * Total Size, and that is at most HS_MESSAGE_MAX and buffer_len. Any other state gets
- * 11. The call leaves the state for the next one: as before with 1 to 4, else fresh
- * unless more is wanted. Fresh is always written as seven zeros, also with 1 to 4. */
+ * 11. The call leaves the state for the next one: with 1 to 4 its seven numbers are
+ * unchanged, else it is fresh, written as seven zeros, unless more is wanted. */
 uint32_t hs_reassembly_step(uint64_t state[HS_STATE_NUMBERS], const uint8_t *frame,
                             size_t frame_len, uint32_t us, uint8_t *buffer,
                             size_t buffer_len, uint32_t words[HS_WORDS]);
@@ -211,7 +213,8 @@ uint32_t hs_notice_post(uint8_t *ring, size_t ring_len,
  * positions[0] has moved behind the notice, and positions[1] is unchanged. 22: under
  * HS_NOTICE_HEADER_SIZE bytes wait, or Data Length is over HS_NOTICE_MAX or over what
  * waits behind the header. Refusals 20, 21, 22, 23: positions, out, *id and *data_len
- * are unchanged. */
+ * are unchanged. So after a 22 each further take gets 22 too, until the caller empties
+ * the ring by making both positions equal. */
 uint32_t hs_notice_take(const uint8_t *ring, size_t ring_len,
                         size_t positions[HS_POSITIONS], uint8_t *out, size_t out_len,
                         uint32_t *id, size_t *data_len);

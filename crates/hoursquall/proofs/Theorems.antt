@@ -4,20 +4,24 @@
 --     state-wide         the state that a block is carries words of 32 bits
 --     read-wide          so does the header of a frame that is read
 --     step-crosses       so does the state after a step, and what C sees of the step is what it hands up
+--     refusal-leaves-lent    what a refusal leaves of what was lent
+--     block-crosses      the block that a call leaves is the state after it
 --     run-crosses        so a run over blocks is a run over states
---     demand-3-exported  and demand 3 holds of it
+--     demand-3-exported, exactly-these-exported   and demand 3 holds of it
+--     ring-is-queue-exported   and so is the ring over blocks of positions the queue
 -- Assumes nothing.
-use Prim.Native.Nat.{ℕ, _+_, _-_, _^_, _<_}
+use Prim.Native.Nat.{ℕ, _+_, _-_, _^_, _≤_, _<_}
 use mathlib.Core.Bool.{Bool, true, false, cond, not, _&&_, _||_}
-use mathlib.Core.Path.{_≡_, refl, ap₂, _∙_}
+use mathlib.Core.Path.{_≡_, refl, sym, ap, ap₂, _∙_}
 use mathlib.Core.List.{List, [], _∷_}
 use native.Mathlib.Omega.{arith}
-use borrow.Author.Tests.{eq-eqb, le-ltb, ltb-false}
-use lib.Dec.{eqb, ltb}
+use borrow.Author.Tests.{eq-eqb, le-ltb, ltb-false, le-leb, lt-leb, leb-true}
+use lib.Dec.{eqb, ltb, leb}
 use lib.ListN.{length, drop, getD}
 use lib.Seq.{getD-drop}
 use Rattle.le.specs.Word.{word, AreBytes}
 use Rattle.le.proofs.Words.{word-below}
+use Rattle.le.proofs.Tests.{both}
 use Rattle.frame.specs.Framing.{All}
 use Rattle.frame.specs.Layout.{headerSize, frameMax, messageMax, typeVersion, headerOf}
 use Rattle.frame.specs.Reading.{parsed, dataOf}
@@ -27,15 +31,28 @@ use Rattle.frame.specs.declared.read.Parsed.{Parsed}
 use Rattle.frame.specs.declared.read.Parsed.the-variants as Parsed
 use Rattle.frame.specs.declared.read.Reason.the-variants.{FrameShort, FrameLong, WrongType, OtherReceiver}
 use Rattle.reassembly.specs.Step.{Stepped, numberOf, consistent, sameWords, stateAfter, refused, landed, taken, accept, begin, isNext, proceed, isFirst, received, stepOf}
-use Rattle.reassembly.specs.Run.{handedUp, run}
-use Rattle.reassembly.specs.Traffic.{calls}
+use Rattle.reassembly.specs.Run.{handedUp, run, messages}
 use Rattle.reassembly.proofs.Theorem.{demand-3}
+use Rattle.reassembly.proofs.Corollaries.{exactly-these, refusal-leaves}
 use Rattle.reassembly.specs.declared.State.{State}
 use Rattle.reassembly.specs.declared.State.the-variants.{Fresh, Open}
 use Rattle.reassembly.specs.declared.Reason.{Reason}
 use Rattle.reassembly.specs.declared.Reason.the-variants.{Unread, NothingOpen, OutOfOrder, OtherWords, NoData, TooMuchData, MessageLong, BadState}
-use Rattle.hoursquall.specs.Reassembly.{wordMax, stateOf, verdictNumber, wordsAfter, stepped, left}
-use Rattle.hoursquall.specs.Statements.{WideWords, Wide, StateCrosses, upInC, runBlocks, RunCrosses, Demand3Exported, PositionsCross}
+use Rattle.reassembly.specs.declared.Verdict.{Verdict}
+use Rattle.reassembly.specs.declared.Verdict.the-variants.{More, Delivered, Refused}
+use Rattle.notice.specs.Ring.{ringAfter, outputAfter}
+use Rattle.notice.specs.Queue as Queue
+use Rattle.notice.specs.Queue.{Operation, post, take, Ring, postStep, takeStep, ringStep}
+use Rattle.notice.specs.Statements.{empty}
+use Rattle.notice.specs.declared.Posted.{Posted}
+use Rattle.notice.specs.declared.Posted.the-variants.{Stored, Refused as NotPosted}
+use Rattle.notice.specs.declared.Taken.{Taken}
+use Rattle.notice.specs.declared.Taken.the-variants.{Notice as Got, Refused as NotTaken}
+use Rattle.notice.proofs.Theorem.{ring-is-queue}
+use Rattle.hoursquall.specs.Notice as Notice
+use Rattle.hoursquall.specs.Notice.{positionsOf, postNumber, positionsAfterPost, takeNumber, positionsAfterTake, idAfter, dataLengthAfter, Kept, ofPost, ofTake, postIn, takeIn, toldBy, keptAfter}
+use Rattle.hoursquall.specs.Reassembly.{wordMax, stateOf, blockOf, verdictNumber, wordsAfter, isUnread, Lent, lending, stepped, answered, left}
+use Rattle.hoursquall.specs.Statements.{WideWords, Wide, StateCrosses, upInC, framesOf, lentTo, runBlocks, RunCrosses, Demand3Exported, ExactlyTheseExported, RefusalLeavesLent, PositionsCross, runRing, inNumbers, allInNumbers, operationsOf, RingIsQueueExported}
 
 -- a number of 32 bits passes the block's test, and only such a one does
 within : (n : ℕ) → n < 2 ^ 32 → ltb wordMax n ≡ false
@@ -152,17 +169,106 @@ module _ (before : List ℕ) where
       either (Crosses before) (not (consistent s (length b))) (refuses BadState s b tt)
       (receives (parsed us f) (read-wide us f are) (dataOf f) s wide b)
 
+-- a refusal of a frame that is not read leaves the state, and each other one a fresh state
+leaves-lent : (us : ℕ) (lent : Lent) (f : List ℕ) (v : Verdict) → stepped us lent f .answer .verdict ≡ v
+    → (1 ≤ verdictNumber v → verdictNumber v ≤ 4 → stepped us lent f .answer .state ≡ stateOf (lent .block))
+    × ((1 ≤ verdictNumber v → verdictNumber v ≤ 4 → left us lent f ≡ lent)
+    × (5 ≤ verdictNumber v → verdictNumber v ≤ 11 → left us lent f ≡ lending (blockOf Fresh) (lent .buffer) (lent .words)))
+leaves-lent us lent f More q = ((λ l m. absurd (omega arith)), ((λ l m. absurd (omega arith)), (λ l m. absurd (omega arith))))
+leaves-lent us lent f (Delivered w n) q = ((λ l m. absurd (omega arith)), ((λ l m. absurd (omega arith)), (λ l m. absurd (omega arith))))
+leaves-lent us lent f (Refused reason) q =
+    let leaves = refusal-leaves us (stateOf (lent .block)) (lent .buffer) f reason q in
+    let n = numberOf reason in (
+      (λ l m. leaves .0 m),
+      (
+        (λ l m. rw (q, leaves .2, le-leb 1 n l, le-leb n 4 m)),
+        (λ l m. rw (q, leaves .2, leaves .1 l, le-leb 1 n (omega arith), lt-leb n 4 (omega arith))),
+      ),
+    )
+
+pub refusal-leaves-lent : RefusalLeavesLent
+refusal-leaves-lent us lent f = leaves-lent us lent f (stepped us lent f .answer .verdict) refl .1
+
+-- the block that a call leaves is the state after it
+block-crosses : (us : ℕ) (lent : Lent) (f : List ℕ) → Wide (stepped us lent f .answer .state) → stateOf (left us lent f .block) ≡ stepped us lent f .answer .state
+block-crosses us lent f wide = go (isUnread (answered us lent f)) refl
+  where
+    go : (t : Bool) → isUnread (answered us lent f) ≡ t → stateOf (cond t (lent .block) (blockOf (stepped us lent f .answer .state))) ≡ stepped us lent f .answer .state
+    go true e =
+        let n = answered us lent f in
+        let range = both (leb 1 n) (leb n 4) e in
+        sym (leaves-lent us lent f (stepped us lent f .answer .verdict) refl .0 (leb-true 1 n (range .0)) (leb-true n 4 (range .1)))
+    go false e = state-crosses (stepped us lent f .answer .state) wide
+
 pub run-crosses : RunCrosses
 unfolding runBlocks run
-run-crosses us lent [] are = refl
-run-crosses us lent (f ∷ fs) are =
-    let st = stepped us lent f in
-    let crosses = step-crosses (lent .words) us (stateOf (lent .block)) (state-wide (lent .block)) (lent .buffer) f (are .0) in
-    let kept = state-crosses (st .answer .state) (crosses .wide) in
-    ap₂ _∷_ (crosses .seen) (rw kept at (run-crosses us (left us lent f) fs (are .1)))
+run-crosses us block b [] are = refl
+run-crosses us block b (c ∷ cs) are =
+    let lent = lentTo c block b in
+    let crosses = step-crosses (c .words) us (stateOf block) (state-wide block) b (c .frame) (are .0) in
+    let kept = block-crosses us lent (c .frame) (crosses .wide) in
+    ap₂ _∷_ (crosses .seen)
+    (run-crosses us (left us lent (c .frame) .block) (left us lent (c .frame) .buffer) cs (are .1)
+    ∙ ap (λ (s : State). run us s (left us lent (c .frame) .buffer) (framesOf cs)) kept)
 
 pub demand-3-exported : Demand3Exported
 unfolding stateOf
-demand-3-exported us lent traffic fits fresh legal are =
-    let starts : stateOf (lent .block) ≡ Fresh = rw (eq-eqb (getD (lent .block) 0 0) 0 fresh) in
-    (rw starts at (run-crosses us lent (calls us traffic) are)) ∙ demand-3 us (lent .buffer) traffic fits legal
+demand-3-exported us block b traffic cs calling =
+    let starts : stateOf block ≡ Fresh = rw (eq-eqb (getD block 0 0) 0 (calling .fresh)) in
+    run-crosses us block b cs (rw (calling .frames-are) (calling .bytes))
+    ∙ rw (starts, calling .frames-are) (demand-3 us b traffic (calling .us-fits) (calling .legal))
+
+pub exactly-these-exported : ExactlyTheseExported
+exactly-these-exported us block b traffic cs calling =
+    ap messages (demand-3-exported us block b traffic cs calling ∙ sym (demand-3 us b traffic (calling .us-fits) (calling .legal)))
+    ∙ exactly-these us b traffic (calling .us-fits) (calling .legal)
+
+-- the ring that is kept
+abbrev ringOf : Kept → Ring
+ringOf k = record { bytes = k .ring; at = positionsOf (k .block) }
+
+-- one call tells what is seen of the operation, and leaves the ring that it leaves
+told : (k : Kept) (c : Notice.Call) → toldBy k (c .operation) (c .id) (c .extent) ≡ inNumbers c (ringStep (ringOf k) (c .operation) .seen)
+told k c = by (c .operation)
+  where
+    by : (op : Operation) → toldBy k op (c .id) (c .extent) ≡ inNumbers c (ringStep (ringOf k) op .seen)
+    by (post n) = go (postIn k n)
+      where
+        go : (p : Posted) → ofPost (postNumber p) ≡ inNumbers c (postStep p (ringOf k) n .seen)
+        go (Stored next) = refl
+        go (NotPosted reason) = refl
+    by (take out) = go (takeIn k out)
+      where
+        go : (t : Taken) → ofTake (takeNumber t) (outputAfter t (k .ring) (positionsOf (k .block)) out) (idAfter t (c .id)) (dataLengthAfter t (c .extent))
+            ≡ inNumbers c (takeStep t (ringOf k) out .seen)
+        go (Got id n next) = refl
+        go (NotTaken reason) = refl
+
+keeps : (k : Kept) (op : Operation) → ringOf (keptAfter k op) ≡ ringStep (ringOf k) op .next
+keeps k (post n) = go (postIn k n)
+  where
+    go : (p : Posted) → ringOf (record { ring = ringAfter p (k .ring) (positionsOf (k .block)) (n .id) (n .body); block = positionsAfterPost p (k .block) })
+        ≡ postStep p (ringOf k) n .next
+    go (Stored next) = refl
+    go (NotPosted reason) = refl
+keeps k (take out) = go (takeIn k out)
+  where
+    go : (t : Taken) → ringOf (record { ring = k .ring; block = positionsAfterTake t (k .block) }) ≡ takeStep t (ringOf k) out .next
+    go (Got id n next) = refl
+    go (NotTaken reason) = refl
+
+ring-crosses : (k : Kept) (cs : List Notice.Call) → runRing k cs ≡ allInNumbers cs (Queue.run ringStep (ringOf k) (operationsOf cs))
+unfolding runRing allInNumbers Queue.run
+ring-crosses k [] = refl
+ring-crosses k (c ∷ cs) =
+    ap₂ _∷_ (told k c)
+    (ring-crosses (keptAfter k (c .operation)) cs
+    ∙ ap (λ (r : Ring). allInNumbers cs (Queue.run ringStep r (operationsOf cs))) (keeps k (c .operation)))
+
+pub ring-is-queue-exported : RingIsQueueExported
+ring-is-queue-exported k cs legal below equal words =
+    let empties : ringOf k ≡ empty (getD (k .block) 0 0) (k .ring) =
+    ap (λ (w : ℕ). record { bytes = k .ring; at = record { read = getD (k .block) 0 0; write = w } }) equal in
+    ring-crosses k cs
+    ∙ ap (allInNumbers cs)
+    (ap (λ (r : Ring). Queue.run ringStep r (operationsOf cs)) empties ∙ ring-is-queue (k .ring) (getD (k .block) 0 0) (operationsOf cs) legal below words)

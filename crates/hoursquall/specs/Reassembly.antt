@@ -1,9 +1,9 @@
 -- The state and the answers of the crate `reassembly` as numbers.
 -- Assumes nothing.
 use Prim.Native.Nat.{ℕ}
-use mathlib.Core.Bool.{cond, not}
+use mathlib.Core.Bool.{Bool, cond, not, _&&_}
 use mathlib.Core.List.{List, [], _∷_}
-use lib.Dec.{eqb, ltb}
+use lib.Dec.{eqb, ltb, leb}
 use lib.ListN.{getD, replicate}
 use Rattle.frame.specs.declared.Words.{Words}
 use Rattle.reassembly.specs.declared.State.{State}
@@ -53,6 +53,14 @@ wordsAfter More before = before
 wordsAfter (Delivered w n) before = w .id ∷ w .sender ∷ w .status ∷ w .total ∷ []
 wordsAfter (Refused reason) before = before
 
+-- the numbers of a frame that is not read
+abbrev pub isUnread : ℕ → Bool
+isUnread number = leb 1 number && leb number 4
+
+-- the block after an answer: "as before" with 1 to 4, so the numbers that were lent, else those of the state after it
+abbrev pub blockAfter : ℕ → State → List ℕ → List ℕ
+blockAfter number state before = cond (isUnread number) before (blockOf state)
+
 -- what a caller of `hs_reassembly_step` lends to each call: the state's block, the buffer, and the place of the carried words
 pub record Lent : Type 0 where
   pub block : List ℕ
@@ -73,7 +81,7 @@ answered us lent frame = verdictNumber (stepped us lent frame .answer .verdict)
 abbrev pub left : ℕ → Lent → List ℕ → Lent
 left us lent frame =
     record {
-      block = blockOf (stepped us lent frame .answer .state);
+      block = blockAfter (answered us lent frame) (stepped us lent frame .answer .state) (lent .block);
       buffer = stepped us lent frame .buffer;
       words = wordsAfter (stepped us lent frame .answer .verdict) (lent .words);
     }

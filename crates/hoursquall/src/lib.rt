@@ -31,11 +31,11 @@ use framelog::Logged;
 use notice::Positions;
 use notice::Posted;
 use notice::Taken;
-use reassembly::Verdict;
 use sfi::Entry;
 use sfi::choice::Chosen;
-use state::block_of;
+use state::block_after;
 use state::state_of;
+use state::tell;
 use ubios::Checked;
 use ubios::RootChecked;
 use ubios::lookup::Found;
@@ -143,17 +143,11 @@ pub extern "C" fn hs_reassembly_step(
 {
     let block = *state;
     let answer = reassembly::step(state_of(block), frame, us, buffer);
-    let next = answer.state;
-    *state = block_of(next);
     let verdict = answer.verdict;
-    match verdict {
-        Verdict::More => 0,
-        Verdict::Delivered(w, _) => {
-            *words = [w.id, w.sender, w.status, w.total];
-            100
-        }
-        Verdict::Refused(reason) => reason.number(),
-    }
+    let next = answer.state;
+    let number = tell(verdict, words);
+    *state = block_after(number, next, block);
+    number
 }
 
 // Posts a notice to a ring; `positions` is a block of two numbers, read and write.

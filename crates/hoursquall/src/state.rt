@@ -1,9 +1,10 @@
-// The state of a reassembly as a block of seven numbers, for a caller to keep between calls.
+// The state of a reassembly as a block of seven numbers, for a caller to keep between calls, and its answers.
 use frame::Words;
 use reassembly::Progress;
 use reassembly::State;
+use reassembly::Verdict;
 ghost use mathlib.Core.Path.{_≡_};
-ghost use Rattle.hoursquall.specs.Reassembly.{noState, stateOf, blockOf};
+ghost use Rattle.hoursquall.specs.Reassembly.{noState, stateOf, blockOf, blockAfter, verdictNumber, wordsAfter};
 
 const WORD_MAX: u64 = 0xFFFF_FFFF;
 
@@ -61,7 +62,7 @@ pub(crate) fn state_of(b: [u64; 7]) -> State
     })
 }
 
-pub(crate) fn block_of(state: State) -> [u64; 7]
+fn block_of(state: State) -> [u64; 7]
     ensures { λ r. ⌜ r ≡ blockOf state ⌝ }
 {
     match state {
@@ -78,5 +79,33 @@ pub(crate) fn block_of(state: State) -> [u64; 7]
                 open.filled as u64,
             ]
         }
+    }
+}
+
+// The block after an answer: a frame that is not read, 1 to 4, leaves it as it was lent.
+pub(crate) fn block_after(number: u32, state: State, before: [u64; 7]) -> [u64; 7]
+    ensures { λ r. ⌜ r ≡ blockAfter number state before ⌝ }
+{
+    if number < 1 {
+        return block_of(state);
+    }
+    if 4 < number {
+        return block_of(state);
+    }
+    before
+}
+
+// The number of a verdict; `words` receives the carried words of a message that is delivered.
+pub(crate) fn tell(verdict: Verdict, words: &mut [u32; 4]) -> u32
+    ensures { λ r. ⌜ r ≡ verdictNumber verdict ⌝ }
+    ensures { λ _. ⌜ now (words .exit) ≡ wordsAfter verdict (now (words .entry)) ⌝ }
+{
+    match verdict {
+        Verdict::More => 0,
+        Verdict::Delivered(w, _) => {
+            *words = [w.id, w.sender, w.status, w.total];
+            100
+        }
+        Verdict::Refused(reason) => reason.number(),
     }
 }

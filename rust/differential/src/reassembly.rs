@@ -100,7 +100,10 @@ impl Lent {
                 state: State::Fresh,
             },
         };
-        self.state.lent().copy_from_slice(&block_of(answer.state));
+        // A frame that is not read leaves the numbers as they are, whatever they are.
+        if !matches!(answer.verdict, reassembly::Verdict::Refused(1..=4)) {
+            self.state.lent().copy_from_slice(&block_of(answer.state));
+        }
         if let reassembly::Verdict::Delivered(words) = answer.verdict {
             let words = [words.id, words.sender, words.status, words.total];
             self.words.lent().copy_from_slice(&words);

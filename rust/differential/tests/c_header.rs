@@ -1,6 +1,10 @@
-//! The C header declares what the raw module declares: a comparison of the two texts.
+//! The C header declares what the raw module declares, and both what the Rattle source exports: a comparison
+//! of the texts.
 
 use hoursquall::{framelog, sfi};
+use std::collections::BTreeSet;
+use std::path::Path;
+use std::{env, fs};
 
 const RAW: &str = include_str!("../../hoursquall/src/raw.rs");
 const HEADER: &str = include_str!("../../../include/hoursquall.h");
@@ -67,7 +71,28 @@ fn is_function(word: &str) -> bool {
     word.starts_with("hs_") && word.contains('(')
 }
 
-/// Sizes, places of the header's words, answers, and refusals by their numbers in document 01.
+/// The names that follow a marker.
+fn names(text: &str, marker: &str) -> BTreeSet<String> {
+    let name = |rest: &str| {
+        let end = rest.find('(').expect("a list of parameters");
+        rest[..end].to_string()
+    };
+    text.split(marker).skip(1).map(name).collect()
+}
+
+#[test]
+fn what_is_exported_is_declared() {
+    let source = Path::new(env!("CARGO_MANIFEST_DIR")).join("../../crates/hoursquall/src");
+    let mut exported = BTreeSet::new();
+    for file in fs::read_dir(source).expect("the library's source") {
+        let text = fs::read_to_string(file.expect("a file").path()).expect("text");
+        exported.extend(names(&text, "pub extern \"C\" fn "));
+    }
+    assert_eq!(exported, names(RAW, "pub fn "));
+}
+
+/// Each constant of the header that is not hexadecimal: sizes, places of the header's words, answers, and
+/// refusals by their numbers in document 01.
 const CONSTANTS: [(&str, usize); 80] = [
     ("HS_HEADER_SIZE", hoursquall::HEADER_SIZE),
     ("HS_FRAME_MAX", hoursquall::FRAME_MAX),
@@ -172,6 +197,20 @@ fn constants_agree() {
         let definition = format!(" {name} = {value},");
         assert!(header.contains(&definition), "missing: {definition}");
     }
+}
+
+#[test]
+fn every_constant_is_compared() {
+    let header = header();
+    let defined: BTreeSet<&str> = header
+        .split(' ')
+        .filter(|word| word.starts_with("HS_"))
+        .filter(|word| header.contains(&format!(" {word} = ")))
+        .collect();
+    let constants = CONSTANTS.iter().map(|(name, _)| *name);
+    let signatures = SIGNATURES.iter().map(|(name, _)| *name);
+    assert_eq!(defined, constants.chain(signatures).collect());
+    assert_eq!(header.matches(" = ").count(), defined.len());
 }
 
 #[test]
