@@ -169,6 +169,13 @@ module _ (before : List ℕ) where
       either (Crosses before) (not (consistent s (length b))) (refuses BadState s b tt)
       (receives (parsed us f) (read-wide us f are) (dataOf f) s wide b)
 
+-- the numbers of a frame that is not read are 1 to 4
+unread-numbers : (n : ℕ) → 1 ≤ n → n ≤ 4 → isUnread n ≡ true
+unread-numbers n least most = ap₂ _&&_ (le-leb 1 n least) (le-leb n 4 most)
+
+other-numbers : (n : ℕ) → 5 ≤ n → isUnread n ≡ false
+other-numbers n more = ap₂ _&&_ (le-leb 1 n (omega arith)) (lt-leb n 4 more)
+
 -- a refusal of a frame that is not read leaves the state, and each other one a fresh state
 leaves-lent : (us : ℕ) (lent : Lent) (f : List ℕ) (v : Verdict) → stepped us lent f .answer .verdict ≡ v
     → (1 ≤ verdictNumber v → verdictNumber v ≤ 4 → stepped us lent f .answer .state ≡ stateOf (lent .block))
@@ -181,8 +188,8 @@ leaves-lent us lent f (Refused reason) q =
     let n = numberOf reason in (
       (λ l m. leaves .0 m),
       (
-        (λ l m. rw (q, leaves .2, le-leb 1 n l, le-leb n 4 m)),
-        (λ l m. rw (q, leaves .2, leaves .1 l, le-leb 1 n (omega arith), lt-leb n 4 (omega arith))),
+        (λ l m. rw (q, leaves .2, unread-numbers n l m)),
+        (λ l m. rw (q, leaves .2, leaves .1 l, other-numbers n l)),
       ),
     )
 

@@ -58,13 +58,13 @@ cast-new : tie.Need-cast-new
 cast-new c = omega (arith, legal (c .before) .message)
 
 cast-new-2 : tie.Need-cast-new-2
-cast-new-2 c = omega (arith, legal (c .before) .message, small c)
+cast-new-2 c = omega (arith, legal (c .before) .message, legal (c .before) .piece, small c)
 
 new-requires : tie.Need-new-requires
 new-requires c κs = search needs
 
 piece-requires : tie.Need-piece-requires
-piece-requires c κs = (within (c .before), legal (c .before .before) .piece)
+piece-requires c κs = (omega (arith, within (c .before)), legal (c .before .before) .piece)
 
 lay-requires : tie.Need-lay-requires
 lay-requires c κs = search needs
