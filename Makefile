@@ -1,5 +1,5 @@
 .DEFAULT_GOAL := help
-.PHONY: help test demo vectors examples bench times
+.PHONY: help test check wrong-answers demo vectors examples bench times
 
 MAKEFLAGS += --no-print-directory
 
@@ -10,15 +10,23 @@ unexport HOURSQUALL_LIB
 quietly = @said=$$($(1) 2>&1) || { printf '%s\n' "$$said"; exit 1; }
 
 help:
-	@echo 'make test      the gate: layout, documents, lints, proofs, must-fail edits, programs, examples, Rust tests'
-	@echo 'make demo      prove the demonstration and run it'
-	@echo 'make vectors   run the numbers to check by, and every refusal, through the proved code'
-	@echo 'make examples  link the library from C and from Rust, and run both'
-	@echo 'make bench     time the library beside plain Rust'
-	@echo 'make times     the gate, and docs/TIMES.md from what it printed'
+	@echo 'make test           the gate: layout, documents, lints, proofs, must-fail edits, programs, examples, Rust tests'
+	@echo 'make check          the same without the edits, and without proving again what has not changed'
+	@echo 'make wrong-answers  try the edits beside the gate; CRATE=ubios: those of one crate'
+	@echo 'make demo           prove the demonstration and run it'
+	@echo 'make vectors        run the numbers to check by, and every refusal, through the proved code'
+	@echo 'make examples       link the library from C and from Rust, and run both'
+	@echo 'make bench          time the library beside plain Rust'
+	@echo 'make times          the gate, and docs/TIMES.md from what it printed'
 
 test:
 	@scripts/test.sh
+
+check:
+	@scripts/test.sh quick
+
+wrong-answers:
+	@scripts/wrong-answers.sh try $(CRATE)
 
 demo:
 	$(call quietly,rt check demo)

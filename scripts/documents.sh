@@ -1,6 +1,8 @@
 #!/usr/bin/env bash
-# Holds the documents to the tree: each link leads somewhere, each name in docs/PROMISES.md stands in a
-# source file, each path in it is there, and each must-fail edit is named in it. Prints what is not so.
+# Holds the documents to the tree, and prints what is not so: each link leads somewhere; of docs/PROMISES.md each
+# name stands in a source file, each path is there, each name in a column that names a file is defined in that file,
+# and each public function of a library crate and each edit has its place; and no crate has more edits in the gate
+# than its budget.
 set -u
 cd "$(dirname "$0")/.." || exit 1
 
@@ -20,9 +22,11 @@ broken_links() {
 # What stands between backticks, a line each.
 code() { grep -oE '`[^`]+`' "$promises" | tr -d '`'; }
 
+edits() { find crates -name '*.edit' -exec basename -a -s .edit {} +; }
+
 known_names() {
     grep -rohE "$name" --include='*.antt' --include='*.rt' --include='*.rs' crates rust/*/src rust/*/tests
-    find crates -name '*.edit' -exec basename -a -s .edit {} +
+    edits
     find crates rust include docs scripts -name target -prune -o -name '*.*' -exec basename -a {} + | grep -oE "$name"
 }
 
@@ -33,22 +37,130 @@ missing_names() {
 
 missing_paths() {
     local path
-    code | grep -E '^(crates|rust|include|docs|scripts)/[^ ]*$' | grep -vE 'LABEL|::' | sort -u | while read -r path; do
+    code | grep -E '^(crates|rust|include|docs|scripts)/[^ ]*$' | grep -vE 'LABEL|NAME|::' | sort -u | while read -r path; do
         [ -e "$path" ] || printf '%s: no %s\n' "$promises" "$path"
     done
 }
 
 unnamed_edits() {
-    comm -23 <(find crates -name '*.edit' -exec basename -a -s .edit {} + | sort -u) \
-        <(code | grep -oE "$name" | sort -u) |
+    comm -23 <(edits | sort -u) <(code | grep -oE "$name" | sort -u) |
         sed "s|^|$promises: no word of the edit |"
+}
+
+# Of a table whose column's title names files, the names in that column must be defined in one of them; of a row with a
+# cell that is a file, those in the cell before it must be defined there.
+misplaced_names() {
+    awk -v page="$promises" '
+        function defines(path, what,   line, token) {
+            if (!(path in read)) {
+                read[path] = 1
+                while ((getline line < path) > 0) {
+                    sub(/^ +/, "", line)
+                    while (sub(/^(abbrev|unfoldable|pub|record|data) /, "", line)) continue
+                    token = line
+                    sub(/ .*/, "", token)
+                    if (line ~ /^[^ ]+ [:({]/) defined[path, token] = 1
+                }
+                close(path)
+            }
+            return (path, what) in defined
+        }
+        # the words of a cell that stand between backticks, into list
+        function words(cell, list,   n, k, m) {
+            n = split(cell, parts, "`")
+            m = 0
+            for (k = 2; k <= n; k += 2) list[++m] = parts[k]
+            return m
+        }
+        function hold(cell, files,   n, m, i, j, found, paths, names, where) {
+            m = words(files, paths)
+            n = words(cell, names)
+            for (i = 1; i <= n; i++) {
+                if (names[i] ~ /\//) continue
+                found = 0
+                where = ""
+                for (j = 1; j <= m; j++) {
+                    if (paths[j] !~ /^crates\/.*\.antt$/) continue
+                    where = where " " paths[j]
+                    if (defines(paths[j], names[i])) found = 1
+                }
+                if (where != "" && !found) printf "%s: %s is not defined in%s\n", page, names[i], where
+            }
+        }
+        !/^\|/ { in_table = 0; next }
+        {
+            n = split($0, cells, "|")
+            if (!in_table) {
+                in_table = 1
+                columns = n
+                for (i = 1; i <= n; i++) titles[i] = cells[i]
+                next
+            }
+            for (i = 2; i < n; i++) {
+                if (titles[i] ~ /`crates\//) hold(cells[i], titles[i])
+                else if (cells[i] ~ /^ `crates\/[^`]*\.antt` $/) hold(cells[i - 1], cells[i])
+            }
+        }' "$promises"
+}
+
+# A line CRATE FUNCTION for each function that is public outside its crate, a method with its type. The parts of the
+# program `vectors` only print.
+public_functions() {
+    local crate
+    for crate in crates/*/; do
+        crate=$(basename "$crate")
+        case $crate in report | *_vectors) continue ;; esac
+        [ -f "crates/$crate/src/lib.rt" ] || continue
+        find "crates/$crate/src" -name '*.rt' -exec awk -v crate="$crate" '
+            FNR == 1 || /^}/ { type = "" }
+            /^impl / { type = $2 "::" }
+            /^ *pub (extern "C" )?fn / {
+                sub(/^.* fn /, "")
+                sub(/[<(].*/, "")
+                print crate, type $0
+            }' {} +
+    done | sort -u
+}
+
+# The same of the tables of functions: a section begins with its crate, and the first column has the functions.
+promised_functions() {
+    awk '
+        /^## / { crate = "" }
+        /^`[a-z_]+` \(/ { split($0, parts, "`"); crate = parts[2] }
+        /^\| `/ && crate != "" {
+            split($0, cells, "|")
+            n = split(cells[2], parts, "`")
+            for (i = 2; i <= n; i += 2) {
+                m = split(parts[i], path, "::")
+                print crate, (m > 1 && path[m - 1] ~ /^[A-Z]/ ? path[m - 1] "::" : "") path[m]
+            }
+        }' "$promises" | sort -u
+}
+
+unpromised_functions() {
+    comm -23 <(public_functions) <(promised_functions) | sed "s|^|$promises: no promise of |"
+    comm -13 <(public_functions) <(promised_functions) | sed "s|^|$promises: no such public function: |"
+}
+
+over_budget() {
+    local folder crate most count
+    for folder in crates/*/must-fail; do
+        crate=$(basename "$(dirname "$folder")")
+        most=12
+        [ "$crate" = hoursquall ] && most=8
+        count=$(find "$folder" -name '*.edit' | wc -l)
+        [ "$count" -le "$most" ] || printf '%s: %d edits, over its budget of %d\n' "$folder" "$count" "$most"
+    done
 }
 
 said=$(
     broken_links
     missing_names
     missing_paths
+    misplaced_names
+    unpromised_functions
     unnamed_edits
+    over_budget
 )
 [ -z "$said" ] || {
     printf '%s\n' "$said"

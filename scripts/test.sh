@@ -1,8 +1,15 @@
 #!/usr/bin/env bash
 # The gate: layout, documents, lints, proofs, must-fail edits, programs, and the examples and the
-# Rust tests over the static library. Its last line is 'N passed, M failed', over all of them; it exits 0 only
-# if M is 0.
+# Rust tests over the static library. With the word 'quick' it tries no edits, and proves only what changed since the
+# last run. Its last line is 'N passed, M failed', over all of them; it exits 0 only if M is 0.
 set -u
+case ${1-} in
+'' | quick) mode=${1-} ;;
+*)
+    printf 'usage: %s [quick]\n' "$0" >&2
+    exit 2
+    ;;
+esac
 exec 2>&1 # one stream, so that the tally comes last
 cd "$(dirname "$0")/.." || exit 1
 
@@ -117,9 +124,14 @@ trap 'rm -f "$log"' EXIT
 
 part 'rt fmt' one rt_fmt
 part 'documents' one scripts/documents.sh
+part 'wrong answers apply' one scripts/wrong-answers.sh apply
 part 'cargo fmt' component fmt --check
 part 'cargo clippy' component clippy --release --offline --all-targets -- -D warnings
-part 'rt ci' rt_ci
+if [ "$mode" = quick ]; then
+    part 'rt check' one rt check
+else
+    part 'rt ci' rt_ci
+fi
 if part 'rt staticlib' one rt staticlib hoursquall; then
     part 'examples' examples
     part 'cargo test' cargo_test
