@@ -160,7 +160,6 @@ said=$(
     misplaced_names
     unpromised_functions
     unnamed_edits
-    over_budget
 )
 [ -z "$said" ] || {
     printf '%s\n' "$said"
