@@ -8,7 +8,7 @@ use mathlib.Core.List.{List, [], _∷_, _++_, map}
 use lib.Dec.{eqb}
 use lib.ListN.{length, take, replicate}
 use Rattle.le.specs.Word.{bytes}
-use Rattle.le.specs.Sum.{sum}
+use Rattle.le.specs.Sum.{sum, checksumOf}
 use Rattle.le.specs.Compare.{same}
 use Rattle.frame.specs.Writing.{counted, written, frameAt, outputAfter}
 use Rattle.frame.specs.declared.Envelope.{Envelope}
@@ -22,7 +22,7 @@ use Rattle.notice.specs.Queue.{Notice, Operation, post, take as takeTo, Seen, a
 use Rattle.notice.specs.Statements.{empty}
 use Rattle.ubios.specs.Layout.{rootName}
 use Rattle.ubios.specs.Checks as Checks
-use Rattle.ubios.specs.Statements.{headOf, checksumOf}
+use Rattle.ubios.specs.Statements.{headOf}
 use Rattle.ubios.specs.declared.RootChecked.{RootChecked}
 use Rattle.ubios.specs.declared.RootChecked.the-variants.{Passed as RootPassed, Refused as RootRefused}
 use Rattle.sfi.specs.Kinds.{cpus}
@@ -51,12 +51,10 @@ pub data Case : Type 0 where
   sees : List Operation → List ℕ → Case
   -- the read and the write position after them, and the ring's bytes
   leaves : List Operation → ℕ → ℕ → List ℕ → Case
-  -- the Checksum of a UBIOS table with this head and body
-  checksums : List ℕ → List ℕ → ℕ → Case
+  -- the Checksum, a word of that many bytes, between this head and these bytes
+  checksums : ℕ → List ℕ → List ℕ → ℕ → Case
   -- the refusal of these bytes as a UBIOS root, which stands at address 4,096 where memory starts; 0 where it passes
   roots : List ℕ → ℕ → Case
-  -- the Checksum of an SFI table with this head, and with these bytes behind its Checksum
-  sfiChecksums : List ℕ → List ℕ → ℕ → Case
   -- the refusal of these bytes as an SFI table; 0 where it passes
   sfiTables : List ℕ → ℕ → Case
 
@@ -105,9 +103,8 @@ holds (leaves ops read write expected) =
     eqb (end ringStep (empty 0 (replicate 16 0)) ops .at .read) read
     && (eqb (end ringStep (empty 0 (replicate 16 0)) ops .at .write) write
     && same (end ringStep (empty 0 (replicate 16 0)) ops .bytes) expected)
-holds (checksums head body expected) = eqb (checksumOf head body) expected
+holds (checksums k head behind expected) = eqb (checksumOf k head behind) expected
 holds (roots s expected) = eqb (rootRefusal (Checks.rootChecked 4096 s 4096)) expected
-holds (sfiChecksums head behind expected) = eqb (SfiTables.checksumOf head behind) expected
 holds (sfiTables s expected) = eqb (sfiRefusal (SfiChecks.checked s)) expected
 
 unfoldable pub allHold : List Case → Bool
@@ -163,12 +160,12 @@ starred =
     ∷ leaves (post seven ∷ takeTo (replicate 7 0) ∷ post two ∷ []) 15 9
     (0x0C ∷ 0x0B ∷ 0x0A ∷ 2 ∷ 0 ∷ 0 ∷ 0 ∷ 0xEE ∷ 0xFF ∷ 2 ∷ 3 ∷ 4 ∷ 5 ∷ 6 ∷ 7 ∷ 0x0D ∷ [])
     -- a root with Total 40, Version 1, all else 0 has Checksum 0x292EB69A
-    ∷ checksums rootHead (replicate 8 0) 0x292EB69A
+    ∷ checksums 4 rootHead (replicate 8 0) 0x292EB69A
     ∷ roots (rootHead ++ (bytes 4 0x292EB69A ++ replicate 8 0)) 0
     -- used bytes 01 00 00 00 FF sum to 0x100
     ∷ sums 4 (1 ∷ 0 ∷ 0 ∷ 0 ∷ 0xFF ∷ []) 0x100
     -- CPUS with Length 28, Revision 1, the rest 0: Checksum 0xA8
-    ∷ sfiChecksums cpusHead (replicate 18 0) 0xA8
+    ∷ checksums 1 cpusHead (replicate 18 0) 0xA8
     ∷ sfiTables (cpusHead ++ (0xA8 ∷ replicate 18 0)) 0
     ∷ []
 

@@ -15,7 +15,7 @@ use native.Mathlib.Omega.{arith}
 use lib.ListN.{length, drop, length-drop, drop-of-length-le}
 use lib.Seq.{drop-nil, drop-drop, drop-append-le, drop-at}
 use Rattle.le.specs.Word.{word, bytes}
-use Rattle.le.specs.Sum.{total, totalOf, sum}
+use Rattle.le.specs.Sum.{total, totalOf, sum, checksumOf}
 use Rattle.le.proofs.Words.{word-nil, word-append, word-own, length-bytes}
 
 total-nil : (k n : ℕ) → total k n [] ≡ 0
@@ -90,14 +90,12 @@ pub sum-below : (k : ℕ) (s : List ℕ) → sum k s < 256 ^ k
 unfolding sum
 sum-below k s = mod-lt (totalOf k s) (one-le-pow k 256 (omega arith))
 
--- with 0 in its place the sum is z; the word that makes it 0 is what z lacks to 256 ^ k
-pub checksum : (k n : ℕ) (s t : List ℕ) → 0 < k → length s ≡ n * k
-    → sum k (s ++ (bytes k ((256 ^ k - sum k (s ++ (bytes k 0 ++ t))) % 256 ^ k) ++ t)) ≡ 0
+pub checksum : (k n : ℕ) (s t : List ℕ) → 0 < k → length s ≡ n * k → sum k (s ++ (bytes k (checksumOf k s t) ++ t)) ≡ 0
 checksum k n s t p h =
     let m = 256 ^ k in
     let positive : 0 < m = one-le-pow k 256 (omega arith) in
     let z = sum k (s ++ (bytes k 0 ++ t)) in
-    let lacking = (m - z) % m in
+    let lacking = checksumOf k s t in
     let replaced = sum-replace k n s (bytes k 0) (bytes k lacking) t p h (length-bytes k 0) (length-bytes k lacking) in
     let added : sum k (s ++ (bytes k lacking ++ t)) % m ≡ (z + lacking) % m =
     rw (word-own k 0 positive, add-zero, word-own k lacking (mod-lt (m - z) positive)) at replaced in

@@ -11,12 +11,12 @@ use lib.Dec.{eqb}
 use lib.ListN.{length, take, drop, length-append}
 use lib.Seq.{take-at, drop-at, drop-drop}
 use Rattle.le.specs.Word.{word, bytes}
-use Rattle.le.specs.Sum.{sum}
+use Rattle.le.specs.Sum.{sum, checksumOf}
 use Rattle.le.proofs.Words.{word-bytes, length-bytes}
 use Rattle.le.proofs.Sums.{checksum}
 use Rattle.sfi.specs.Kinds.{wake, kindOf}
 use Rattle.sfi.specs.Checks.{headerSize, lengthMax, signatureOf, lengthOf, revisionOf, summedPart, badLength, wrongRevision, badEntries, checked}
-use Rattle.sfi.specs.Statements.{headOf, checksumOf, tableOf, LaidPasses}
+use Rattle.sfi.specs.Statements.{headOf, tableOf, LaidPasses}
 use Rattle.sfi.specs.declared.kind.Kind.{Kind}
 use Rattle.sfi.specs.declared.kind.Known.the-variants.{Is}
 use Rattle.sfi.specs.declared.Checked.the-variants.{Passed}
@@ -39,14 +39,14 @@ module _ (kind : Kind) (oem entries rest : List ℕ)
 
   -- what follows Revision
   abbrev behind : List ℕ
-  behind = bytes 1 (checksumOf head (oem ++ entries)) ++ (oem ++ entries) ++ rest
+  behind = bytes 1 (checksumOf 1 head (oem ++ entries)) ++ (oem ++ entries) ++ rest
 
   facts : Listed (kind .signature) kind
   facts = listed (kind .signature) kind is
 
   here : table ≡ bytes 4 (kind .signature) ++ (bytes 4 total ++ (bytes 1 (kind .revision) ++ behind))
   here =
-      append-assoc head (bytes 1 (checksumOf head (oem ++ entries)) ++ (oem ++ entries)) rest
+      append-assoc head (bytes 1 (checksumOf 1 head (oem ++ entries)) ++ (oem ++ entries)) rest
       ∙ append-assoc (bytes 4 (kind .signature)) (bytes 4 total ++ bytes 1 (kind .revision)) behind
       ∙ ap (λ (l : List ℕ). bytes 4 (kind .signature) ++ l) (append-assoc (bytes 4 total) (bytes 1 (kind .revision)) behind)
 

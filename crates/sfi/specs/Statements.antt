@@ -6,7 +6,7 @@ use mathlib.Core.Path.{_≡_}
 use mathlib.Core.List.{List, [], _∷_, _++_}
 use lib.ListN.{length, drop}
 use Rattle.le.specs.Word.{word, bytes}
-use Rattle.le.specs.Sum.{sum}
+use Rattle.le.specs.Sum.{checksumOf}
 use Rattle.sfi.specs.Kinds.{syst, cpus, apic, mmap, freq, mrtc, devs, gpio, mtmr, wake, kindOf}
 use Rattle.sfi.specs.Checks.{headerSize, lengthMax, lengthOf, checked, entryOf, passesAs}
 use Rattle.sfi.specs.Search.{isHit, located}
@@ -127,14 +127,10 @@ PartPasses =
 abbrev pub headOf : Kind → ℕ → List ℕ
 headOf kind total = bytes 4 (kind .signature) ++ (bytes 4 total ++ bytes 1 (kind .revision))
 
--- the Checksum that brings the sum of all Length bytes to 0
-abbrev pub checksumOf : List ℕ → List ℕ → ℕ
-checksumOf head behind = (256 - sum 1 (head ++ (bytes 1 0 ++ behind))) % 256
-
 abbrev pub tableOf : Kind → List ℕ → List ℕ → List ℕ
 tableOf kind oem entries =
     headOf kind (headerSize + length entries)
-    ++ (bytes 1 (checksumOf (headOf kind (headerSize + length entries)) (oem ++ entries)) ++ (oem ++ entries))
+    ++ (bytes 1 (checksumOf 1 (headOf kind (headerSize + length entries)) (oem ++ entries)) ++ (oem ++ entries))
 
 -- `laid-passes`. Each table of a listed kind that is laid out by the rules passes, whatever stands behind it: any OEM strings, any entries, one entry for WAKE.
 abbrev pub LaidPasses : Type 0

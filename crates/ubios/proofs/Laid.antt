@@ -8,14 +8,14 @@ use native.Mathlib.Omega.{arith}
 use lib.ListN.{length, take, drop, length-append}
 use lib.Seq.{take-at, drop-at, drop-drop, drop-append-seam}
 use Rattle.le.specs.Word.{word, bytes}
-use Rattle.le.specs.Sum.{sum}
+use Rattle.le.specs.Sum.{sum, checksumOf}
 use Rattle.le.proofs.Words.{word-bytes, word-one, length-bytes}
 use Rattle.le.proofs.Sums.{checksum}
 use Rattle.le.proofs.Comparing.{equal-same}
 use Rattle.ubios.specs.Layout.{tableHeader, rootHeader, countMax, nameMax, version, upToZero, nameOf, totalOf, versionOf, remainingOf, usedOf, summedPart, rootName, countOf, addresses, slotsOf}
 use Rattle.ubios.specs.Checks.{tableAt, badSize, judged, rootJudged}
 use Rattle.ubios.specs.Lookup.{badName}
-use Rattle.ubios.specs.Statements.{headOf, checksumOf, tableOf, Laid, LaidPasses, EndsName, LaidName, slotBytes, Addresses, rootBody, RootLaid, LaidRoot}
+use Rattle.ubios.specs.Statements.{headOf, tableOf, Laid, LaidPasses, EndsName, LaidName, slotBytes, Addresses, rootBody, RootLaid, LaidRoot}
 use Rattle.ubios.specs.declared.Table.{Table}
 use Rattle.ubios.specs.declared.Checked.the-variants.{Passed}
 use Rattle.ubios.proofs.Answers.{not-outside, good-size, judged-passed, is-inside, root-judged, root-passed, good-count}
@@ -66,7 +66,7 @@ module _ (header base : ℕ) (front field reserved : List ℕ) (remaining : ℕ)
 
   -- what follows the head
   abbrev tail : List ℕ
-  tail = bytes 4 (checksumOf head body) ++ body ++ rest
+  tail = bytes 4 (checksumOf 4 head body) ++ body ++ rest
 
   abbrev table : List ℕ
   table = tableOf field reserved remaining body ++ rest
@@ -75,7 +75,7 @@ module _ (header base : ℕ) (front field reserved : List ℕ) (remaining : ℕ)
   table-length = let named = laid .named in let three = laid .three in simp (length-append, length-bytes) (omega arith)
 
   here : table ≡ head ++ tail
-  here = append-assoc head (bytes 4 (checksumOf head body) ++ body) rest
+  here = append-assoc head (bytes 4 (checksumOf 4 head body) ++ body) rest
 
   total-read : totalOf table ≡ total
   total-read = ap (λ (s : List ℕ). totalOf s) here ∙ total-is field total reserved remaining tail (laid .named) (laid .three) (omega (arith, laid .most))
@@ -175,7 +175,7 @@ module _ (base : ℕ) (front junk reserved : List ℕ) (remaining : ℕ) (six sl
   first = headOf field (tableHeader + length body + remaining) reserved remaining
 
   abbrev check : List ℕ
-  check = bytes 4 (checksumOf first body)
+  check = bytes 4 (checksumOf 4 first body)
 
   abbrev root : List ℕ
   root = tableOf field reserved remaining body ++ rest
@@ -196,7 +196,7 @@ module _ (base : ℕ) (front junk reserved : List ℕ) (remaining : ℕ) (six sl
   behind-head : drop tableHeader root ≡ body ++ rest
   behind-head =
       let long : length (first ++ check) ≡ tableHeader =
-      length-append first check ∙ ap₂ _+_ (head-length field _ reserved remaining [] (laid .named) (laid .three)) (length-bytes 4 (checksumOf first body)) in
+      length-append first check ∙ ap₂ _+_ (head-length field _ reserved remaining [] (laid .named) (laid .three)) (length-bytes 4 (checksumOf 4 first body)) in
       ap (drop tableHeader) (append-assoc first (check ++ body) rest ∙ ap (λ (l : List ℕ). first ++ l) (append-assoc check body rest) ∙ sym (append-assoc first check (body ++ rest)))
       ∙ drop-at (first ++ check) (body ++ rest) tableHeader long
 

@@ -8,7 +8,7 @@ use mathlib.Core.List.{List, [], _∷_, _++_}
 use lib.Dec.{ltb}
 use lib.ListN.{length, take, drop}
 use Rattle.le.specs.Word.{bytes}
-use Rattle.le.specs.Sum.{sum}
+use Rattle.le.specs.Sum.{checksumOf}
 use Rattle.ubios.specs.Layout.{tableHeader, totalMax, countMax, nameMax, version, nameOf, usedOf, rootName, slotsOf}
 use Rattle.ubios.specs.Checks.{tableAt, checked, rootChecked}
 use Rattle.ubios.specs.Lookup.{badName, leads, bodyAt, found}
@@ -112,14 +112,10 @@ BodyBytes =
 abbrev pub headOf : List ℕ → ℕ → List ℕ → ℕ → List ℕ
 headOf field total reserved remaining = field ++ (bytes 4 total ++ ((version ∷ reserved) ++ bytes 4 remaining))
 
--- the Checksum that brings the sum of the used part to 0
-abbrev pub checksumOf : List ℕ → List ℕ → ℕ
-checksumOf head body = (2 ^ 32 - sum 4 (head ++ (bytes 4 0 ++ body))) % 2 ^ 32
-
 abbrev pub tableOf : List ℕ → List ℕ → ℕ → List ℕ → List ℕ
 tableOf field reserved remaining body =
     headOf field (tableHeader + length body + remaining) reserved remaining
-    ++ (bytes 4 (checksumOf (headOf field (tableHeader + length body + remaining) reserved remaining) body) ++ body)
+    ++ (bytes 4 (checksumOf 4 (headOf field (tableHeader + length body + remaining) reserved remaining) body) ++ body)
 
 -- a memory with that table, at that address
 pub record Laid (base : ℕ) (front field reserved : List ℕ) (remaining : ℕ) (body rest : List ℕ) : Type 0 where
