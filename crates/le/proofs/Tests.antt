@@ -1,7 +1,7 @@
--- Equations that cannot be, and tests that are joined by "and" and "or", taken apart.
+-- Equations that cannot be, tests that are joined by "and" and "or", taken apart, and choices by a test.
 -- Assumes nothing.
 use Prim.Native.Nat.{ℕ, _≤_, _<_}
-use mathlib.Core.Bool.{Bool, true, false, _&&_, _||_}
+use mathlib.Core.Bool.{Bool, true, false, cond, _&&_, _||_}
 use mathlib.Core.Path.{_≡_, refl, sym, _∙_}
 use borrow.Author.Tests.{ltb-true, ltb-false, lt-ltb, le-ltb}
 use native.Mathlib.Omega.{arith}
@@ -21,6 +21,16 @@ both false b e = never (sym e)
 pub neither : (a b : Bool) → a || b ≡ false → (a ≡ false) × (b ≡ false)
 neither true b e = never e
 neither false b e = (refl, e)
+
+-- what is not the first branch is the second, and the test is false
+pub past : {A : Type 0} {x y z : A} (b : Bool) → (x ≡ z → ⊥) → cond b x y ≡ z → (b ≡ false) × (y ≡ z)
+past true other e = absurd (other e)
+past false other e = (refl, e)
+
+-- what holds of either branch holds of the choice
+pub either : {A : Type 0} (P : A → Type 0) (b : Bool) {x y : A} → P x → P y → P (cond b x y)
+either P true p q = p
+either P false p q = q
 
 -- two comparisons that say the same
 pub agree : (a b c d : ℕ) → (a < b → c < d) → (b ≤ a → d ≤ c) → ltb a b ≡ ltb c d

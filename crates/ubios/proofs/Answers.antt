@@ -1,24 +1,26 @@
 -- The laws of the checks: one for each answer, with what leads there.
 -- Assumes nothing.
 use Prim.Native.Nat.{ℕ, _+_, _*_, _-_, _%_, _^_, _≤_, _<_}
-use mathlib.Core.Bool.{Bool, true, false, not}
+use mathlib.Core.Bool.{true, false, not}
 use mathlib.Core.Path.{_≡_, refl, subst, _∙_}
 use mathlib.Core.List.{List}
-use borrow.Author.Tests.{lt-ltb, le-ltb, eq-eqb, ne-eqb, ltb-false, eqb-true, eqb-false}
+use borrow.Author.Tests.{lt-ltb, le-ltb, eq-eqb, ne-eqb, ltb-false, eqb-true, not-false}
 use native.Mathlib.Omega.{arith}
 use lib.Dec.{ltb, eqb}
 use lib.ListN.{length}
 use Rattle.le.specs.Compare.{same}
 use Rattle.le.specs.Sum.{sum}
-use Rattle.le.proofs.Tests.{apart, neither, agree}
+use Rattle.le.proofs.Tests.{apart, neither, past, either, agree}
+use Rattle.le.proofs.Comparing.{same-true}
 use Rattle.ubios.specs.Layout.{rootHeader, totalMax, countMax, version, nameOf, totalOf, versionOf, remainingOf, usedOf, summedPart, rootName, countOf}
-use Rattle.ubios.specs.Checks.{tableAt, outside, badSize, judged, checked, badCount, rootJudged, rootChecked}
+use Rattle.ubios.specs.Checks.{numberOf, tableAt, outside, badSize, judged, checked, badCount, rootJudged, rootAfter, rootChecked}
+use Rattle.ubios.specs.Statements.{Inside, Sized, PassesOnly, Rooted, RootPassesOnly, RootRefusals}
 use Rattle.ubios.specs.declared.Table.{Table}
-use Rattle.ubios.specs.declared.Root.{Root}
 use Rattle.ubios.specs.declared.Reason.{Reason}
 use Rattle.ubios.specs.declared.Reason.the-variants.{Outside, Misaligned, BadSize, WrongVersion, WrongSum, NotRoot, BadCount}
 use Rattle.ubios.specs.declared.Checked.{Checked}
 use Rattle.ubios.specs.declared.Checked.the-variants.{Passed, Refused}
+use Rattle.ubios.specs.declared.RootChecked.{RootChecked}
 use Rattle.ubios.specs.declared.RootChecked.the-variants.{Passed as RootPassed, Refused as RootRefused}
 
 -- a region that runs past 2^64 has its last byte behind the last address
@@ -50,11 +52,6 @@ module _ (header base size address : ℕ) where
     not-outside h e = by-end h ∙ le-ltb (base + size) (address + header) e
 
 -- what is known of a header that is not
-pub record Inside (header base size address : ℕ) : Type 0 where
-  pub top : base + size ≤ 2 ^ 64
-  pub start : base ≤ address
-  pub end : address + header ≤ base + size
-
 pub inside : (header base size address : ℕ) → outside header base size address ≡ false → Inside header base size address
 unfolding outside
 inside header base size address e =
@@ -90,12 +87,6 @@ module _ (header size total remaining : ℕ) where
       good-size h r = by-remaining h ∙ le-ltb (total - header) remaining r
 
 -- what is known of sizes that are not
-pub record Sized (header size total remaining : ℕ) : Type 0 where
-  pub holds : header ≤ total
-  pub most : total ≤ totalMax
-  pub inside : total ≤ size
-  pub left : remaining ≤ total - header
-
 pub sized : (header size total remaining : ℕ) → badSize header size total remaining ≡ false → Sized header size total remaining
 unfolding badSize
 sized header size total remaining e =
@@ -104,7 +95,7 @@ sized header size total remaining e =
     let r = neither (ltb size total) _ (q .1) in
     record {
       holds = ltb-false total header (p .0);
-      most = ltb-false totalMax total (q .0);
+      most = omega (arith, ltb-false totalMax total (q .0));
       inside = ltb-false size total (r .0);
       left = ltb-false (total - header) remaining (r .1);
     }
@@ -145,65 +136,33 @@ module _ (header base : ℕ) (region : List ℕ) (address : ℕ) where
     unfolding checked
     is-inside e = rw (eq-eqb (address % 8) 0 aligned, e)
 
--- all that is known of a table that passes
-pub record Passing (header base : ℕ) (region : List ℕ) (address : ℕ) (table : Table) : Type 0 where
-  pub aligned : address % 8 ≡ 0
-  pub inside : Inside header base (length region) address
-  pub sized : Sized header (length (tableAt base region address)) (totalOf (tableAt base region address)) (remainingOf (tableAt base region address))
-  pub one : versionOf (tableAt base region address) ≡ version
-  pub zero : sum 4 (summedPart (tableAt base region address)) ≡ 0
-  pub is : table ≡ record { at = address - base; used = usedOf (tableAt base region address) }
-
-pub passing : (header base : ℕ) (region : List ℕ) (address : ℕ) (table : Table) → checked header base region address ≡ Passed table → Passing header base region address table
-passing header base region address table e = by-aligned (eqb (address % 8) 0) refl
-  where
-    t : List ℕ
-    t = tableAt base region address
-
-    by-sum : address % 8 ≡ 0 → outside header base (length region) address ≡ false → badSize header (length t) (totalOf t) (remainingOf t) ≡ false
-        → versionOf t ≡ version → (b : Bool) → eqb (sum 4 (summedPart t)) 0 ≡ b → Passing header base region address table
-    by-sum a o s v true q =
-        let zero = eqb-true (sum 4 (summedPart t)) 0 q in
-        let all = is-inside header base region address a o ∙ judged-passed header (address - base) t s v zero in
-        record {
-          aligned = a;
-          inside = inside header base (length region) address o;
-          sized = sized header (length t) (totalOf t) (remainingOf t) s;
-          one = v;
-          zero = zero;
-          is = cc;
-        }
-    by-sum a o s v false q =
-        let all = is-inside header base region address a o ∙ judged-sum header (address - base) t s v (eqb-false (sum 4 (summedPart t)) 0 q) in apart (cc)
-
-    by-version : address % 8 ≡ 0 → outside header base (length region) address ≡ false → badSize header (length t) (totalOf t) (remainingOf t) ≡ false
-        → (b : Bool) → eqb (versionOf t) version ≡ b → Passing header base region address table
-    by-version a o s true q = by-sum a o s (eqb-true (versionOf t) version q) (eqb (sum 4 (summedPart t)) 0) refl
-    by-version a o s false q =
-        let all = is-inside header base region address a o ∙ judged-version header (address - base) t s (eqb-false (versionOf t) version q) in apart (cc)
-
-    by-size : address % 8 ≡ 0 → outside header base (length region) address ≡ false
-        → (b : Bool) → badSize header (length t) (totalOf t) (remainingOf t) ≡ b → Passing header base region address table
-    by-size a o true q = let all = is-inside header base region address a o ∙ judged-size header (address - base) t q in apart (cc)
-    by-size a o false q = by-version a o q (eqb (versionOf t) version) refl
-
-    by-place : address % 8 ≡ 0 → (b : Bool) → outside header base (length region) address ≡ b → Passing header base region address table
-    by-place a true q = let all = is-outside header base region address a q in apart (cc)
-    by-place a false q = by-size a q (badSize header (length t) (totalOf t) (remainingOf t)) refl
-
-    by-aligned : (b : Bool) → eqb (address % 8) 0 ≡ b → Passing header base region address table
-    by-aligned true q = by-place (eqb-true (address % 8) 0 q) (outside header base (length region) address) refl
-    by-aligned false q = let all = misaligned header base region address (eqb-false (address % 8) 0 q) in apart (cc)
+pub passes-only : PassesOnly
+unfolding checked judged
+passes-only header base region address table e =
+    let t = tableAt base region address in
+    let a = past (not (eqb (address % 8) 0)) (λ q. apart (cc)) e in
+    let o = past (outside header base (length region) address) (λ q. apart (cc)) (a .1) in
+    let s = past (badSize header (length t) (totalOf t) (remainingOf t)) (λ q. apart (cc)) (o .1) in
+    let v = past (not (eqb (versionOf t) version)) (λ q. apart (cc)) (s .1) in
+    let z = past (not (eqb (sum 4 (summedPart t)) 0)) (λ q. apart (cc)) (v .1) in
+    record {
+      aligned = eqb-true (address % 8) 0 (not-false _ (a .0));
+      inside = inside header base (length region) address (o .0);
+      sized = sized header (length t) (totalOf t) (remainingOf t) (s .0);
+      one = eqb-true (versionOf t) version (not-false _ (v .0));
+      zero = eqb-true (sum 4 (summedPart t)) 0 (not-false _ (z .0));
+      is = let all = z .1 in cc;
+    }
 
 -- a passing table's header lies in the region and in its used part
 pub header-fits : (header base : ℕ) (region : List ℕ) (address : ℕ) (table : Table) → checked header base region address ≡ Passed table → table .at + header ≤ length region
 header-fits header base region address table e =
-    let p = passing header base region address table e in
+    let p = passes-only header base region address table e in
     rw (p .is) (omega (arith, p .inside .start, p .inside .end))
 
 pub header-used : (header base : ℕ) (region : List ℕ) (address : ℕ) (table : Table) → checked header base region address ≡ Passed table → header ≤ table .used
 header-used header base region address table e =
-    let p = passing header base region address table e in
+    let p = passes-only header base region address table e in
     rw (p .is) (omega (arith, p .sized .holds, p .sized .left))
 
 -- 35, 36, and the root
@@ -232,35 +191,53 @@ module _ (base : ℕ) (region : List ℕ) (address : ℕ) where
   unfolding rootChecked
   root-judged table e = rw e
 
--- all that is known of a root that passes, beside what is known of a table
-pub record Rooted (base : ℕ) (region : List ℕ) (address : ℕ) (root : Root) : Type 0 where
-  pub passes : checked rootHeader base region address ≡ Passed (root .table)
-  pub named : same (nameOf (tableAt base region address)) rootName ≡ true
-  pub counted : badCount (root .table .used) (root .count) ≡ false
-  pub count : root .count ≡ countOf (tableAt base region address)
-
-pub rooted : (base : ℕ) (region : List ℕ) (address : ℕ) (root : Root) → rootChecked base region address ≡ RootPassed root → Rooted base region address root
-rooted base region address root e = by-table (checked rootHeader base region address) refl
+pub root-passes-only : RootPassesOnly
+unfolding rootChecked rootJudged
+root-passes-only base region address root e = go (checked rootHeader base region address) refl e
   where
     t : List ℕ
     t = tableAt base region address
 
-    by-count : (table : Table) → checked rootHeader base region address ≡ Passed table → same (nameOf t) rootName ≡ true
-        → (b : Bool) → badCount (table .used) (countOf t) ≡ b → Rooted base region address root
-    by-count table p n true q =
-        let all = root-judged base region address table p ∙ root-count table t n (countOf t) refl q in apart (cc)
-    by-count table p n false q =
-        let all = root-judged base region address table p ∙ root-passed table t n (countOf t) refl q in
-        let is : record { table = table; count = countOf t } ≡ root = cc in
-        subst (Rooted base region address) is (record { passes = p; named = n; counted = q; count = refl })
+    go : (c : Checked) → checked rootHeader base region address ≡ c → rootAfter c t ≡ RootPassed root → Rooted base region address root
+    go (Refused reason) p q = apart (cc)
+    go (Passed table) p q =
+        let n = past (not (same (nameOf t) rootName)) (λ z. apart (cc)) q in
+        let c = past (badCount (table .used) (countOf t)) (λ z. apart (cc)) (n .1) in
+        let is : record { table = table; count = countOf t } ≡ root = let all = c .1 in cc in
+        let slots = neither (ltb countMax (countOf t)) _ (c .0) in
+        subst (Rooted base region address) is
+        (record {
+          table = passes-only rootHeader base region address table p;
+          named = same-true (nameOf t) rootName (not-false _ (n .0));
+          few = omega (arith, ltb-false countMax (countOf t) (slots .0));
+          room = ltb-false (table .used) (rootHeader + 8 * countOf t) (slots .1);
+          count = refl;
+        })
 
-    by-name : (table : Table) → checked rootHeader base region address ≡ Passed table → (b : Bool) → same (nameOf t) rootName ≡ b → Rooted base region address root
-    by-name table p true q = by-count table p q (badCount (table .used) (countOf t)) refl
-    by-name table p false q = let all = root-judged base region address table p ∙ root-name table t q in apart (cc)
+-- the numbers of the root's refusals
+abbrev Numbered : RootChecked → Type 0
+Numbered (RootPassed root) = Unit {0}
+Numbered (RootRefused reason) = (30 ≤ numberOf reason) × (numberOf reason ≤ 36)
 
-    by-table : (c : Checked) → checked rootHeader base region address ≡ c → Rooted base region address root
-    by-table (Passed table) q = by-name table q (same (nameOf t) rootName) refl
-    by-table (Refused reason) q = let all = root-refused base region address reason q in apart (cc)
+pub root-refusals : RootRefusals
+unfolding checked judged rootChecked rootJudged
+root-refusals base region address reason e = subst Numbered e numbered
+  where
+    t : List ℕ
+    t = tableAt base region address
+
+    After : Checked → Type 0
+    After c = Numbered (rootAfter c t)
+
+    numbered : Numbered (rootChecked base region address)
+    numbered =
+        either After (not (eqb (address % 8) 0)) (omega arith, omega arith)
+        (either After (outside rootHeader base (length region) address) (omega arith, omega arith)
+        (either After (badSize rootHeader (length t) (totalOf t) (remainingOf t)) (omega arith, omega arith)
+        (either After (not (eqb (versionOf t) version)) (omega arith, omega arith)
+        (either After (not (eqb (sum 4 (summedPart t)) 0)) (omega arith, omega arith)
+        (either Numbered (not (same (nameOf t) rootName)) (omega arith, omega arith)
+        (either Numbered (badCount (usedOf t) (countOf t)) (omega arith, omega arith) tt))))))
 
 -- which counts are bad
 module _ (used count : ℕ) where
@@ -273,7 +250,3 @@ module _ (used count : ℕ) where
 
     pub good-count : rootHeader + 8 * count ≤ used → badCount used count ≡ false
     good-count h = rw (le-ltb countMax count few, le-ltb used (rootHeader + 8 * count) h)
-
-pub few-slots : (used count : ℕ) → badCount used count ≡ false → (count ≤ countMax) × (rootHeader + 8 * count ≤ used)
-few-slots used count e =
-    let p = neither (ltb countMax count) _ e in (ltb-false countMax count (p .0), ltb-false used (rootHeader + 8 * count) (p .1))

@@ -1,9 +1,10 @@
--- `laid-passes`: a table that is laid out by the rules passes its checks.
+-- A table that is laid out by the rules passes its checks, and is found by its name.
 -- Assumes nothing.
 use Prim.Native.Nat.{ℕ, suc, _+_, _*_, _-_, _^_, _≤_, _<_}
 use mathlib.Core.Bool.{false}
 use mathlib.Core.Path.{_≡_, refl, sym, ap, ap₂, _∙_}
 use mathlib.Core.List.{List, [], _∷_, _++_, append-nil, append-assoc}
+use borrow.Author.Tests.{ne-eqb}
 use native.Mathlib.Omega.{arith}
 use lib.ListN.{length, take, drop, length-append}
 use lib.Seq.{take-at, drop-at, drop-drop, drop-append-seam}
@@ -11,14 +12,16 @@ use Rattle.le.specs.Word.{word, bytes}
 use Rattle.le.specs.Sum.{sum, checksumOf}
 use Rattle.le.proofs.Words.{word-bytes, word-one, length-bytes}
 use Rattle.le.proofs.Sums.{checksum}
-use Rattle.le.proofs.Comparing.{equal-same}
+use Rattle.le.proofs.Comparing.{same-self, equal-same}
 use Rattle.ubios.specs.Layout.{tableHeader, rootHeader, countMax, nameMax, version, upToZero, nameOf, totalOf, versionOf, remainingOf, usedOf, summedPart, rootName, countOf, addresses, slotsOf}
-use Rattle.ubios.specs.Checks.{tableAt, badSize, judged, rootJudged}
-use Rattle.ubios.specs.Lookup.{badName}
-use Rattle.ubios.specs.Statements.{headOf, tableOf, Laid, LaidPasses, EndsName, LaidName, slotBytes, Addresses, rootBody, RootLaid, LaidRoot}
+use Rattle.ubios.specs.Checks.{tableAt, badSize, judged, checked, rootJudged}
+use Rattle.ubios.specs.Lookup.{badName, leads, bodyOf}
+use Rattle.ubios.specs.Statements.{headOf, tableOf, Laid, LaidPasses, EndsName, LaidName, slotBytes, Addresses, rootBody, RootLaid, LaidRoot, TableIn, LaidLeads, LaidFound}
 use Rattle.ubios.specs.declared.Table.{Table}
 use Rattle.ubios.specs.declared.Checked.the-variants.{Passed}
-use Rattle.ubios.proofs.Answers.{not-outside, good-size, judged-passed, is-inside, root-judged, root-passed, good-count}
+use Rattle.ubios.specs.declared.lookup.Found.the-variants.{Only}
+use Rattle.ubios.proofs.Answers.{passes-only, not-outside, good-size, judged-passed, is-inside, root-judged, root-passed, good-count}
+use Rattle.ubios.proofs.Theorems.{only-found}
 use Rattle.ubios.proofs.Names.{ends, joined, whole as whole-name, root-name-good}
 
 -- the words of a table with these, whatever stands behind its head
@@ -144,6 +147,15 @@ pub laid-name : LaidName
 laid-name base front name end behind good ended long =
     ap (λ (t : List ℕ). nameOf t) (at-address base front ((name ++ end) ++ behind)) ∙ name-in name end behind good ended long
 
+-- the name of a table as it is laid out
+name-of : (name end reserved : List ℕ) (remaining : ℕ) (body rest : List ℕ) → badName name ≡ false → EndsName end → length (name ++ end) ≡ nameMax
+    → nameOf (tableOf (name ++ end) reserved remaining body ++ rest) ≡ name
+name-of name end reserved remaining body rest good ended long =
+    let first = headOf (name ++ end) (tableHeader + length body + remaining) reserved remaining in
+    let behind = bytes 4 (checksumOf 4 first body) ++ body in
+    ap (λ (t : List ℕ). nameOf t) (append-assoc first behind rest ∙ append-assoc (name ++ end) _ (behind ++ rest))
+    ∙ name-in name end _ good ended long
+
 -- addresses that were laid out are read back
 read-slots : (slots behind : List ℕ) → Addresses slots → addresses (length slots) (slotBytes slots ++ behind) ≡ slots
 unfolding addresses slotBytes
@@ -189,9 +201,7 @@ module _ (base : ℕ) (front junk reserved : List ℕ) (remaining : ℕ) (six sl
   root-fits = let long = body-length in omega arith
 
   named-root : nameOf root ≡ rootName
-  named-root =
-      ap (λ (t : List ℕ). nameOf t) (append-assoc first (check ++ body) rest ∙ append-assoc field _ ((check ++ body) ++ rest))
-      ∙ name-in rootName (0 ∷ junk) _ root-name-good refl (laid .named)
+  named-root = name-of rootName (0 ∷ junk) reserved remaining body rest root-name-good refl (laid .named)
 
   behind-head : drop tableHeader root ≡ body ++ rest
   behind-head =
@@ -233,3 +243,42 @@ module _ (base : ℕ) (front junk reserved : List ℕ) (remaining : ℕ) (six sl
 pub laid-root : LaidRoot
 laid-root base front junk reserved remaining six slots more rest six-bytes few fit laid =
     root-laid base front junk reserved remaining six slots more rest six-bytes few fit laid
+
+-- a table in a memory with others: it passes, and its slot leads there
+module _ (base : ℕ) (region : List ℕ) (address : ℕ) (own body : List ℕ) (t : TableIn base region address own body) where
+  in-passes : checked tableHeader base region address ≡ Passed (record { at = address - base; used = tableHeader + length body })
+  in-passes =
+      let place : base + length (t .front) - base ≡ length (t .front) = omega arith in
+      rw (t .here, t .memory, place) (laid-passes tableHeader base (t .front) (own ++ t .end) (t .reserved) (t .remaining) body (t .rest) (omega arith) (t .laid))
+
+  in-name : nameOf (tableAt base region address) ≡ own
+  in-name =
+      let table = tableOf (own ++ t .end) (t .reserved) (t .remaining) body ++ t .rest in
+      rw (t .here, t .memory)
+      (ap (λ (s : List ℕ). nameOf s) (at-address base (t .front) table) ∙ name-of own (t .end) (t .reserved) (t .remaining) body (t .rest) (t .good) (t .ended) (t .laid .named))
+
+pub laid-leads : LaidLeads
+unfolding leads
+laid-leads base region address own body name t ne =
+    rw (ne-eqb address 0 ne, in-passes base region address own body t, in-name base region address own body t)
+
+pub laid-found : LaidFound
+laid-found base region root address name body before after r t ne hb ha =
+    let slots = before ++ (address ∷ after) in
+    let laid : RootLaid base region root (length (r .front)) (tableHeader + length (rootBody (r .six) slots (r .more))) slots =
+    rw (r .here, r .memory) (laid-root base (r .front) (r .junk) (r .reserved) (r .remaining) (r .six) slots (r .more) (r .rest) (r .six-bytes) (r .few) (r .fit) (r .laid)) in
+    let behind-header : tableHeader + length body - tableHeader ≡ length body = omega arith in
+    let passing = passes-only tableHeader base region address _ (in-passes base region address name body t) in
+    only-found base region root name _
+    (record { sought = t .good; root-table = _; root-passes = laid .passes })
+    (record {
+      before = before;
+      address = address;
+      after = after;
+      slots = laid .slots-are;
+      leads-there = laid-leads base region address name body name t ne ∙ same-self name;
+      none-before = hb;
+      none-after = ha;
+      is = ap (bodyOf (length before)) (passing .is);
+    })
+    ∙ ap (λ (n : ℕ). Only (record { slot = length before; at = address - base + tableHeader; length = n })) behind-header

@@ -1,25 +1,26 @@
--- The theorems of `specs/Statements.antt`: which slot is found, what a gap changes, and where the body lies.
+-- The theorems of `specs/Statements.antt` on the look-up: which slot is found, when none is and when two are, what a gap changes, and where the body lies.
 -- Assumes nothing.
 use Prim.Native.Nat.{ℕ, zero, suc, _+_, _-_, _≤_, _<_}
 use mathlib.Core.Bool.{Bool, true, false, cond}
-use mathlib.Core.Path.{_≡_, refl, sym, ap, ap₂, _∙_}
+use mathlib.Core.Path.{_≡_, refl, sym, ap, ap₂, subst, _∙_}
 use mathlib.Core.List.{List, [], _∷_, _++_, append-assoc, map}
 use borrow.Author.Tests.{lt-ltb, le-ltb}
 use native.Mathlib.Omega.{arith}
 use lib.Dec.{ltb}
 use lib.ListN.{length, take, drop, length-drop, length-append}
 use lib.Seq.{take-nil, drop-drop}
-use Rattle.le.specs.Compare.{same}
 use Rattle.le.proofs.Tests.{apart}
 use Rattle.ubios.specs.Layout.{tableHeader, usedOf, slotsOf}
-use Rattle.ubios.specs.Checks.{tableAt, rootChecked}
+use Rattle.ubios.specs.Checks.{numberOf, tableAt, rootChecked}
 use Rattle.ubios.specs.Lookup.{badName, passes, leads, bodyOf, bodyAt, hits, answerOf, lookedUp, found}
-use Rattle.ubios.specs.Statements.{NoneLeads, FoundBy, FoundOnly, OnlyFound, BehindGap, SameTables, movedOn, GapAdded, BodyInside, BodyBytes}
+use Rattle.ubios.specs.Statements.{NoneLeads, Walked, FoundOnly, OnlyFound, FoundNone, NoneFound, FoundTwo, TwoFound, BehindGap, SameTables, movedOn, GapAdded, BodyInside, BodyBytes}
+use Rattle.ubios.specs.declared.Reason.the-variants.{NoTable, TwoTables}
 use Rattle.ubios.specs.declared.RootChecked.{RootChecked}
 use Rattle.ubios.specs.declared.RootChecked.the-variants.{Passed as RootPassed, Refused as RootRefused}
 use Rattle.ubios.specs.declared.lookup.Body.{Body}
-use Rattle.ubios.specs.declared.lookup.Found.the-variants.{Only}
-use Rattle.ubios.proofs.Answers.{passing}
+use Rattle.ubios.specs.declared.lookup.Found.{Found}
+use Rattle.ubios.specs.declared.lookup.Found.the-variants.{Only, Refused}
+use Rattle.ubios.proofs.Answers.{passes-only, root-refusals}
 use Rattle.ubios.proofs.Walking.{at-gap, led, no-slots, passes-over, meets, bad-name, no-root, in-root}
 
 -- what is equal in equal lists and equal answers
@@ -64,22 +65,22 @@ module _ (base : ℕ) (region name : List ℕ) where
       go true q later = let z = sym (meets base region name k a slots q) ∙ e in apart (cc)
       go false q later = (q, later (sym (passes-over base region name k a slots q) ∙ e))
 
-  -- where among the slots the only hit is
-  record Place (k : ℕ) (slots : List ℕ) (b : Body) : Type 0 where
+  -- where among the slots the first hit is
+  record Place (k : ℕ) (slots : List ℕ) (b : Body) (more : List Body) : Type 0 where
     before : List ℕ
     address : ℕ
     after : List ℕ
     all : slots ≡ before ++ (address ∷ after)
     leads-there : leads base region name address ≡ true
     none-before : NoneLeads base region name before
-    none-after : NoneLeads base region name after
+    others : hits base region name (suc (k + length before)) after ≡ more
     is : b ≡ bodyAt base region (k + length before) address
 
-  place : (k : ℕ) (slots : List ℕ) (b : Body) → hits base region name k slots ≡ b ∷ [] → Place k slots b
-  place k [] b e = let z = sym (no-slots base region name k) ∙ e in apart (cc)
-  place k (a ∷ slots) b e = go (leads base region name a) refl (place (suc k) slots b)
+  place : (k : ℕ) (slots : List ℕ) (b : Body) (more : List Body) → hits base region name k slots ≡ b ∷ more → Place k slots b more
+  place k [] b more e = let z = sym (no-slots base region name k) ∙ e in apart (cc)
+  place k (a ∷ slots) b more e = go (leads base region name a) refl (place (suc k) slots b more)
     where
-      go : (t : Bool) → leads base region name a ≡ t → (hits base region name (suc k) slots ≡ b ∷ [] → Place (suc k) slots b) → Place k (a ∷ slots) b
+      go : (t : Bool) → leads base region name a ≡ t → (hits base region name (suc k) slots ≡ b ∷ more → Place (suc k) slots b more) → Place k (a ∷ slots) b more
       go true q later =
           let here = sym (meets base region name k a slots q) ∙ e in
           let start : k ≡ k + 0 = omega arith in
@@ -90,7 +91,7 @@ module _ (base : ℕ) (region name : List ℕ) where
             all = refl;
             leads-there = q;
             none-before = tt;
-            none-after = none-lead (suc k) slots (cons-tail here);
+            others = ap (λ (i : ℕ). hits base region name (suc i) slots) (sym start) ∙ cons-tail here;
             is = sym (cons-head here) ∙ ap (λ (i : ℕ). bodyAt base region i a) start;
           }
       go false q later =
@@ -103,14 +104,65 @@ module _ (base : ℕ) (region name : List ℕ) where
             all = ap (λ (l : List ℕ). a ∷ l) (p .all);
             leads-there = p .leads-there;
             none-before = (q, p .none-before);
-            none-after = p .none-after;
+            others = ap (λ (i : ℕ). hits base region name (suc i) (p .after)) (sym on) ∙ p .others;
             is = p .is ∙ ap (λ (i : ℕ). bodyAt base region i (p .address)) on;
           }
 
+  -- slots of which n hits come at least, with others before them, and behind one more that leads there
+  module _ (n : ℕ) (slots : List ℕ) (least : (k : ℕ) → n ≤ length (hits base region name k slots)) where
+    least-behind : (before : List ℕ) (k : ℕ) → n ≤ length (hits base region name k (before ++ slots))
+    least-behind [] k = least k
+    least-behind (x ∷ before) k = go (leads base region name x) refl (least-behind before (suc k))
+      where
+        go : (t : Bool) → leads base region name x ≡ t → n ≤ length (hits base region name (suc k) (before ++ slots))
+            → n ≤ length (hits base region name k (x ∷ (before ++ slots)))
+        go true q later = rw (meets base region name k x (before ++ slots) q) (omega arith)
+        go false q later = rw (passes-over base region name k x (before ++ slots) q) later
+
+    one-more : (a : ℕ) → leads base region name a ≡ true → (k : ℕ) → suc n ≤ length (hits base region name k (a ∷ slots))
+    one-more a q k = rw (meets base region name k a slots q) (omega (arith, least (suc k)))
+
+  two-hits : (before : List ℕ) (a : ℕ) (between : List ℕ) (b : ℕ) (after : List ℕ) → leads base region name a ≡ true → leads base region name b ≡ true
+      → 2 ≤ length (hits base region name 0 (before ++ (a ∷ (between ++ (b ∷ after)))))
+  two-hits before a between b after ha hb =
+      let one = one-more 0 after (λ k. omega arith) b hb in
+      let two = one-more 1 (between ++ (b ∷ after)) (least-behind 1 (b ∷ after) one between) a ha in
+      least-behind 2 (a ∷ (between ++ (b ∷ after))) two before 0
+
+-- an answer of the slots, and which of them it is
+module _ (base : ℕ) (region : List ℕ) (root : ℕ) (name : List ℕ) where
+  abbrev slots : List ℕ
+  slots = slotsOf (tableAt base region root)
+
+  abbrev met : List Body
+  met = hits base region name 0 slots
+
+  by-slots : Walked base region root name → found base region root name ≡ lookedUp base region name slots
+  by-slots w = in-root base region root name (w .sought) (w .root-table) (w .root-passes)
+
+  -- an answer that is no refusal, or 37 or 38, comes of the slots
+  abbrev OfSlots : Found → Type 0
+  OfSlots (Only b) = Unit {0}
+  OfSlots (Refused reason) = (37 ≤ numberOf reason) × (numberOf reason ≤ 38)
+
+  walked : (f : Found) → OfSlots f → found base region root name ≡ f → Walked base region root name × (lookedUp base region name slots ≡ f)
+  walked f of e = by-name (badName name) refl
+    where
+      by-root : badName name ≡ false → (c : RootChecked) → rootChecked base region root ≡ c → Walked base region root name × (lookedUp base region name slots ≡ f)
+      by-root good (RootRefused reason) q =
+          let above = subst OfSlots (sym e ∙ no-root base region root name good reason q) of in
+          absurd (omega (arith, root-refusals base region root reason q .1, above .0))
+      by-root good (RootPassed r) q =
+          let w : Walked base region root name = record { sought = good; root-table = r; root-passes = q } in
+          (w, sym (by-slots w) ∙ e)
+
+      by-name : (t : Bool) → badName name ≡ t → Walked base region root name × (lookedUp base region name slots ≡ f)
+      by-name true q = let above = subst OfSlots (sym e ∙ bad-name base region root name q) of in absurd (omega (arith, above .1))
+      by-name false q = by-root q (rootChecked base region root) refl
+
 pub only-found : OnlyFound
-only-found base region root name b by =
-    let one = by .only in
-    in-root base region root name (by .sought) (by .root-table) (by .root-passes)
+only-found base region root name b w one =
+    by-slots base region root name w
     ∙ ap (lookedUp base region name) (one .slots)
     ∙ one-of-all base region name (one .before) (one .address) (one .after) (one .none-before) (one .leads-there) (one .none-after)
     ∙ ap Only (sym (one .is))
@@ -122,34 +174,78 @@ one-answer (c ∷ []) b e = ap (λ (x : Body). x ∷ []) (only-inj e)
 one-answer (c ∷ d ∷ l) b e = apart (cc)
 
 pub found-only : FoundOnly
-found-only base region root name b e = by-name (badName name) refl
-  where
-    by-root : badName name ≡ false → (c : RootChecked) → rootChecked base region root ≡ c → FoundBy base region root name b
-    by-root good (RootRefused reason) q = let z = sym (no-root base region root name good reason q) ∙ e in apart (cc)
-    by-root good (RootPassed r) q =
-        let slots = slotsOf (tableAt base region root) in
-        let p = place base region name 0 slots b (one-answer (hits base region name 0 slots) b (sym (in-root base region root name good r q) ∙ e)) in
-        let start : 0 + length (p .before) ≡ length (p .before) = omega arith in
-        record {
-          sought = good;
-          root-table = r;
-          root-passes = q;
-          only =
-              record {
-                before = p .before;
-                address = p .address;
-                after = p .after;
-                slots = p .all;
-                leads-there = p .leads-there;
-                none-before = p .none-before;
-                none-after = p .none-after;
-                is = p .is ∙ ap (λ (i : ℕ). bodyAt base region i (p .address)) start;
-              };
-        }
+found-only base region root name b e =
+    let w = walked base region root name (Only b) tt e in
+    let p = place base region name 0 (slots base region root name) b [] (one-answer (met base region root name) b (w .1)) in
+    let start : 0 + length (p .before) ≡ length (p .before) = omega arith in (
+      w .0,
+      record {
+        before = p .before;
+        address = p .address;
+        after = p .after;
+        slots = p .all;
+        leads-there = p .leads-there;
+        none-before = p .none-before;
+        none-after = none-lead base region name _ (p .after) (p .others);
+        is = p .is ∙ ap (λ (i : ℕ). bodyAt base region i (p .address)) start;
+      },
+    )
 
-    by-name : (t : Bool) → badName name ≡ t → FoundBy base region root name b
-    by-name true q = let z = sym (bad-name base region root name q) ∙ e in apart (cc)
-    by-name false q = by-root q (rootChecked base region root) refl
+-- 37 comes of no hit
+no-answer : (l : List Body) → answerOf l ≡ Refused NoTable → l ≡ []
+no-answer [] e = refl
+no-answer (b ∷ []) e = apart (cc)
+no-answer (b ∷ c ∷ l) e = apart (cc)
+
+pub found-none : FoundNone
+found-none base region root name e =
+    let w = walked base region root name (Refused NoTable) (omega arith, omega arith) e in
+    (w .0, none-lead base region name 0 (slots base region root name) (no-answer (met base region root name) (w .1)))
+
+pub none-found : NoneFound
+none-found base region root name w none =
+    by-slots base region root name w ∙ ap answerOf (none-hit base region name 0 (slots base region root name) none)
+
+-- 38 comes of two hits, or more
+record Two (l : List Body) : Type 0 where
+  first : Body
+  second : Body
+  more : List Body
+  all : l ≡ first ∷ second ∷ more
+
+two-answer : (l : List Body) → answerOf l ≡ Refused TwoTables → Two l
+two-answer [] e = apart (cc)
+two-answer (b ∷ []) e = apart (cc)
+two-answer (b ∷ c ∷ l) e = record { first = b; second = c; more = l; all = refl }
+
+answer-two : (l : List Body) → 2 ≤ length l → answerOf l ≡ Refused TwoTables
+answer-two [] h = absurd (omega arith)
+answer-two (b ∷ []) h = absurd (omega arith)
+answer-two (b ∷ c ∷ l) h = refl
+
+pub found-two : FoundTwo
+found-two base region root name e =
+    let w = walked base region root name (Refused TwoTables) (omega arith, omega arith) e in
+    let two = two-answer (met base region root name) (w .1) in
+    let p = place base region name 0 (slots base region root name) (two .first) (two .second ∷ two .more) (two .all) in
+    let q = place base region name _ (p .after) (two .second) (two .more) (p .others) in (
+      w .0,
+      record {
+        before = p .before;
+        first = p .address;
+        between = q .before;
+        second = q .address;
+        after = q .after;
+        slots = p .all ∙ ap (λ (l : List ℕ). p .before ++ (p .address ∷ l)) (q .all);
+        first-leads = p .leads-there;
+        second-leads = q .leads-there;
+      },
+    )
+
+pub two-found : TwoFound
+two-found base region root name w two =
+    let many = two-hits base region name (two .before) (two .first) (two .between) (two .second) (two .after) (two .first-leads) (two .second-leads) in
+    by-slots base region root name w ∙ answer-two (met base region root name) (rw (two .slots) many)
 
 -- slots of which none leads there, joined
 none-joined : (base : ℕ) (region name before after : List ℕ) → NoneLeads base region name before → NoneLeads base region name after → NoneLeads base region name (before ++ after)
@@ -235,13 +331,13 @@ module _ (base : ℕ) (region name : List ℕ) (a : ℕ) (q : leads base region 
   body-end : (k : ℕ) → bodyAt base region k a .at + bodyAt base region k a .length ≤ length region
   body-end k =
       let l = led base region name a q in
-      let p = passing tableHeader base region a (l .table) (l .passes) in
+      let p = passes-only tableHeader base region a (l .table) (l .passes) in
       let room = length-drop (a - base) region in
       omega (arith, p .sized .holds, p .sized .left, p .sized .inside, room)
 
 pub body-inside : BodyInside
 body-inside base region root name b e =
-    let one = found-only base region root name b e .only in
+    let one = found-only base region root name b e .1 in
     rw (one .is) (body-end base region name (one .address) (one .leads-there) (length (one .before)))
 
 drop-take : (m n : ℕ) (s : List ℕ) → drop m (take n s) ≡ take (n - m) (drop m s)

@@ -27,7 +27,7 @@ use Rattle.ubios.specs.declared.RootChecked.the-variants.{Passed as Root
 use Rattle.ubios.specs.declared.lookup.Body.{Body}
 use Rattle.ubios.specs.declared.lookup.Found.the-variants.{Only, Refused as Refuses}
 use Rattle.ubios.specs.declared.lookup.Hit.the-variants.{None, Some}
-use Rattle.ubios.proofs.Answers.{passing}
+use Rattle.ubios.proofs.Answers.{passes-only}
 
 -- which slots lead to a passing table of the name
 module _ (base : ℕ) (region name : List ℕ) (address : ℕ) where
@@ -56,7 +56,7 @@ module _ (base : ℕ) (region name : List ℕ) (address : ℕ) where
   below-region h = go (checked tableHeader base region address) refl
     where
       go : (c : Checked) → checked tableHeader base region address ≡ c → leads base region name address ≡ false
-      go (Passed t) e = absurd (omega (arith, passing tableHeader base region address t e .inside .start))
+      go (Passed t) e = absurd (omega (arith, passes-only tableHeader base region address t e .inside .start))
       go (Refused reason) e = fails reason e
 
   pub leads-there : (table : Table) → isGap address ≡ false → checked tableHeader base region address ≡ Passed table
@@ -90,7 +90,7 @@ module _ (base : ℕ) (region name : List ℕ) (address : ℕ) where
         → hitOf base region name slot address ≡ Some (bodyOf slot table)
     hit table ne e named =
         rw (leads-there table ne e named)
-        (ap (λ (t : Table). Some (bodyOf slot t)) (sym (passing tableHeader base region address table e .is)))
+        (ap (λ (t : Table). Some (bodyOf slot t)) (sym (passes-only tableHeader base region address table e .is)))
 
 some-inj : {a b : Body} → Some a ≡ Some b → a ≡ b
 some-inj e = cc

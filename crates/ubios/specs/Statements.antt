@@ -1,23 +1,78 @@
--- What is proved of the checks and of the look-up. The proofs are in `proofs/Theorems.antt`, those of `laid-passes`, `laid-root` and `laid-name` in
--- `proofs/Laid.antt`, under the names given here.
+-- What is proved of the checks and of the look-up, under the names given here. The proofs are in `proofs/Theorems.antt`, those whose names begin with `laid` in
+-- `proofs/Laid.antt`, those of `passes-only`, `root-passes-only` and `root-refusals` in `proofs/Answers.antt`.
 -- Assumes nothing.
-use Prim.Native.Nat.{ℕ, suc, _+_, _-_, _%_, _^_, _≤_, _<_}
+use Prim.Native.Nat.{ℕ, suc, _+_, _*_, _-_, _%_, _^_, _≤_, _<_}
 use mathlib.Core.Bool.{true, false, cond}
 use mathlib.Core.Path.{_≡_}
 use mathlib.Core.List.{List, [], _∷_, _++_}
 use lib.Dec.{ltb}
 use lib.ListN.{length, take, drop}
 use Rattle.le.specs.Word.{bytes}
-use Rattle.le.specs.Sum.{checksumOf}
-use Rattle.ubios.specs.Layout.{tableHeader, totalMax, countMax, nameMax, version, nameOf, usedOf, rootName, slotsOf}
-use Rattle.ubios.specs.Checks.{tableAt, checked, rootChecked}
+use Rattle.le.specs.Sum.{sum, checksumOf}
+use Rattle.le.specs.Compare.{same}
+use Rattle.ubios.specs.Layout.{tableHeader, version, nameOf, totalOf, versionOf, remainingOf, usedOf, rootName, countOf, slotsOf}
+use Rattle.ubios.specs.Checks.{numberOf, tableAt, checked, rootChecked}
 use Rattle.ubios.specs.Lookup.{badName, leads, bodyAt, found}
+use Rattle.ubios.specs.declared.Table.{Table}
 use Rattle.ubios.specs.declared.Root.{Root}
+use Rattle.ubios.specs.declared.Reason.{Reason}
+use Rattle.ubios.specs.declared.Reason.the-variants.{NoTable, TwoTables}
 use Rattle.ubios.specs.declared.Checked.the-variants.{Passed}
-use Rattle.ubios.specs.declared.RootChecked.the-variants.{Passed as RootPassed}
+use Rattle.ubios.specs.declared.RootChecked.the-variants.{Passed as RootPassed, Refused as RootRefused}
 use Rattle.ubios.specs.declared.lookup.Body.{Body}
 use Rattle.ubios.specs.declared.lookup.Found.{Found}
 use Rattle.ubios.specs.declared.lookup.Found.the-variants.{Only, Refused}
+
+-- a header of that size, at that address, lies in a region of `size` bytes that ends at 2^64 or before
+pub record Inside (header base size address : ℕ) : Type 0 where
+  pub top : base + size ≤ 2 ^ 64
+  pub start : base ≤ address
+  pub end : address + header ≤ base + size
+
+-- Total Size and Remaining Size of a table that has `size` bytes of the region
+pub record Sized (header size total remaining : ℕ) : Type 0 where
+  pub holds : header ≤ total
+  pub most : total ≤ 65536
+  pub inside : total ≤ size
+  pub left : remaining ≤ total - header
+
+-- `passes-only`. What passes is aligned, with its header in the region and its sizes in their bounds, has Version 1 and a used part that sums to 0; the answer is where
+-- it stands, and how long that part is.
+pub record Passing (header base : ℕ) (region : List ℕ) (address : ℕ) (table : Table) : Type 0 where
+  pub aligned : address % 8 ≡ 0
+  pub inside : Inside header base (length region) address
+  pub sized : Sized header (length (tableAt base region address)) (totalOf (tableAt base region address)) (remainingOf (tableAt base region address))
+  pub one : versionOf (tableAt base region address) ≡ 1
+  pub zero : sum 4 (take (usedOf (tableAt base region address)) (tableAt base region address)) ≡ 0
+  pub is : table ≡ record { at = address - base; used = usedOf (tableAt base region address) }
+
+abbrev pub PassesOnly : Type 0
+PassesOnly =
+    (header base : ℕ) (region : List ℕ) (address : ℕ) (table : Table)
+    → checked header base region address ≡ Passed table
+    → Passing header base region address table
+
+-- `root-passes-only`. What passes as a root passes as a table with a header of 40, is named `root_table`, and has at most 128 slots, all in its used part; the answer
+-- has their number.
+pub record Rooted (base : ℕ) (region : List ℕ) (address : ℕ) (root : Root) : Type 0 where
+  pub table : Passing 40 base region address (root .table)
+  pub named : nameOf (tableAt base region address) ≡ rootName
+  pub few : root .count ≤ 128
+  pub room : 40 + 8 * root .count ≤ root .table .used
+  pub count : root .count ≡ countOf (tableAt base region address)
+
+abbrev pub RootPassesOnly : Type 0
+RootPassesOnly =
+    (base : ℕ) (region : List ℕ) (address : ℕ) (root : Root)
+    → rootChecked base region address ≡ RootPassed root
+    → Rooted base region address root
+
+-- `root-refusals`. A root is refused with 30 to 36 and no other number, so 37, 38 and 39 come of the look-up alone.
+abbrev pub RootRefusals : Type 0
+RootRefusals =
+    (base : ℕ) (region : List ℕ) (address : ℕ) (reason : Reason)
+    → rootChecked base region address ≡ RootRefused reason
+    → (30 ≤ numberOf reason) × (numberOf reason ≤ 36)
 
 -- none of these slots leads to a passing table of the name
 abbrev pub NoneLeads : ℕ → List ℕ → List ℕ → List ℕ → Type 0
@@ -35,12 +90,22 @@ pub record OnlyOne (base : ℕ) (region : List ℕ) (root : ℕ) (name : List �
   pub none-after : NoneLeads base region name after
   pub is : b ≡ bodyAt base region (length before) address
 
--- what a look-up that finds it rests on
-pub record FoundBy (base : ℕ) (region : List ℕ) (root : ℕ) (name : List ℕ) (b : Body) : Type 0 where
+-- two among all do, at different places; their addresses may be the same
+pub record TwoLead (base : ℕ) (region : List ℕ) (root : ℕ) (name : List ℕ) : Type 0 where
+  pub before : List ℕ
+  pub first : ℕ
+  pub between : List ℕ
+  pub second : ℕ
+  pub after : List ℕ
+  pub slots : slotsOf (tableAt base region root) ≡ before ++ (first ∷ (between ++ (second ∷ after)))
+  pub first-leads : leads base region name first ≡ true
+  pub second-leads : leads base region name second ≡ true
+
+-- the look-up comes to the slots: the name can be sought, and the root passes
+pub record Walked (base : ℕ) (region : List ℕ) (root : ℕ) (name : List ℕ) : Type 0 where
   pub sought : badName name ≡ false
   pub root-table : Root
   pub root-passes : rootChecked base region root ≡ RootPassed root-table
-  pub only : OnlyOne base region root name b
 
 -- `found-only`, `only-found`. A body is found exactly where the name can be sought, the root passes, and one slot among all leads to a passing table of the name,
 -- wherever it stands; and it is that table's.
@@ -48,13 +113,42 @@ abbrev pub FoundOnly : Type 0
 FoundOnly =
     (base : ℕ) (region : List ℕ) (root : ℕ) (name : List ℕ) (b : Body)
     → found base region root name ≡ Only b
-    → FoundBy base region root name b
+    → Walked base region root name × OnlyOne base region root name b
 
 abbrev pub OnlyFound : Type 0
 OnlyFound =
     (base : ℕ) (region : List ℕ) (root : ℕ) (name : List ℕ) (b : Body)
-    → FoundBy base region root name b
+    → Walked base region root name
+    → OnlyOne base region root name b
     → found base region root name ≡ Only b
+
+-- `found-none`, `none-found`. 37 is given exactly where the name can be sought, the root passes, and no slot leads to a passing table of the name.
+abbrev pub FoundNone : Type 0
+FoundNone =
+    (base : ℕ) (region : List ℕ) (root : ℕ) (name : List ℕ)
+    → found base region root name ≡ Refused NoTable
+    → Walked base region root name × NoneLeads base region name (slotsOf (tableAt base region root))
+
+abbrev pub NoneFound : Type 0
+NoneFound =
+    (base : ℕ) (region : List ℕ) (root : ℕ) (name : List ℕ)
+    → Walked base region root name
+    → NoneLeads base region name (slotsOf (tableAt base region root))
+    → found base region root name ≡ Refused NoTable
+
+-- `found-two`, `two-found`. 38 is given exactly where the name can be sought, the root passes, and two slots or more lead to passing tables of the name.
+abbrev pub FoundTwo : Type 0
+FoundTwo =
+    (base : ℕ) (region : List ℕ) (root : ℕ) (name : List ℕ)
+    → found base region root name ≡ Refused TwoTables
+    → Walked base region root name × TwoLead base region root name
+
+abbrev pub TwoFound : Type 0
+TwoFound =
+    (base : ℕ) (region : List ℕ) (root : ℕ) (name : List ℕ)
+    → Walked base region root name
+    → TwoLead base region root name
+    → found base region root name ≡ Refused TwoTables
 
 -- `behind-gap`. A table behind a gap is found, wherever the gap stands before it.
 abbrev pub BehindGap : Type 0
@@ -119,9 +213,9 @@ tableOf field reserved remaining body =
 
 -- a memory with that table, at that address
 pub record Laid (base : ℕ) (front field reserved : List ℕ) (remaining : ℕ) (body rest : List ℕ) : Type 0 where
-  pub named : length field ≡ nameMax
+  pub named : length field ≡ 16
   pub three : length reserved ≡ 3
-  pub most : tableHeader + length body + remaining ≤ totalMax
+  pub most : tableHeader + length body + remaining ≤ 65536
   pub left : remaining ≤ length rest
   pub aligned : (base + length front) % 8 ≡ 0
   pub top : base + length (front ++ (tableOf field reserved remaining body ++ rest)) ≤ 2 ^ 64
@@ -146,7 +240,7 @@ LaidName =
     (base : ℕ) (front name end behind : List ℕ)
     → badName name ≡ false
     → EndsName end
-    → length (name ++ end) ≡ nameMax
+    → length (name ++ end) ≡ 16
     → nameOf (tableAt base (front ++ ((name ++ end) ++ behind)) (base + length front)) ≡ name
 
 -- the slots of a root, one after another
@@ -172,8 +266,57 @@ abbrev pub LaidRoot : Type 0
 LaidRoot =
     (base : ℕ) (front junk reserved : List ℕ) (remaining : ℕ) (six slots more rest : List ℕ)
     → length six ≡ 6
-    → length slots ≤ countMax
+    → length slots ≤ 128
     → Addresses slots
     → Laid base front (rootName ++ (0 ∷ junk)) reserved remaining (rootBody six slots more) rest
     → RootLaid base (front ++ (tableOf (rootName ++ (0 ∷ junk)) reserved remaining (rootBody six slots more) ++ rest)) (base + length front) (length front)
     (tableHeader + length (rootBody six slots more)) slots
+
+-- in that memory a table of that name, with that body, is laid out by the rules at that address
+pub record TableIn (base : ℕ) (region : List ℕ) (address : ℕ) (name body : List ℕ) : Type 0 where
+  pub front : List ℕ
+  pub end : List ℕ
+  pub reserved : List ℕ
+  pub remaining : ℕ
+  pub rest : List ℕ
+  pub here : address ≡ base + length front
+  pub memory : region ≡ front ++ (tableOf (name ++ end) reserved remaining body ++ rest)
+  pub good : badName name ≡ false
+  pub ended : EndsName end
+  pub laid : Laid base front (name ++ end) reserved remaining body rest
+
+-- and a root with these slots
+pub record RootIn (base : ℕ) (region : List ℕ) (root : ℕ) (slots : List ℕ) : Type 0 where
+  pub front : List ℕ
+  pub junk : List ℕ
+  pub reserved : List ℕ
+  pub remaining : ℕ
+  pub six : List ℕ
+  pub more : List ℕ
+  pub rest : List ℕ
+  pub here : root ≡ base + length front
+  pub memory : region ≡ front ++ (tableOf (rootName ++ (0 ∷ junk)) reserved remaining (rootBody six slots more) ++ rest)
+  pub six-bytes : length six ≡ 6
+  pub few : length slots ≤ 128
+  pub fit : Addresses slots
+  pub laid : Laid base front (rootName ++ (0 ∷ junk)) reserved remaining (rootBody six slots more) rest
+
+-- `laid-leads`. A slot with the address, not 0, of a table that is laid out by the rules leads to a passing table of a name exactly if the name is the table's.
+abbrev pub LaidLeads : Type 0
+LaidLeads =
+    (base : ℕ) (region : List ℕ) (address : ℕ) (own body name : List ℕ)
+    → TableIn base region address own body
+    → (address ≡ 0 → ⊥)
+    → leads base region name address ≡ same own name
+
+-- `laid-found`. In a memory with a root and a table, both laid out by the rules, the table is found by its name if one slot has its address, not 0, and no other slot
+-- leads to a passing table of that name; the answer is that slot and the table's body.
+abbrev pub LaidFound : Type 0
+LaidFound =
+    (base : ℕ) (region : List ℕ) (root address : ℕ) (name body before after : List ℕ)
+    → RootIn base region root (before ++ (address ∷ after))
+    → TableIn base region address name body
+    → (address ≡ 0 → ⊥)
+    → NoneLeads base region name before
+    → NoneLeads base region name after
+    → found base region root name ≡ Only (record { slot = length before; at = address - base + tableHeader; length = length body })

@@ -1,12 +1,11 @@
 -- `ubios::Root::check` meets its contract: the checks of a table, then the root's own.
 -- Assumes nothing.
-use Prim.Native.Nat.{_-_}
 use mathlib.Core.Path.{sym, ap, _∙_}
 use lib.ListN.{drop}
 use Rattle.ubios.specs.Layout.{rootHeader}
 use Rattle.ubios.specs.Checks.{rootJudged}
 use Rattle.ubios.specs.declared.Table.{Table}
-use Rattle.ubios.proofs.Answers.{passing, root-refused, root-judged}
+use Rattle.ubios.proofs.Answers.{passes-only, root-refused, root-judged}
 use borrow.Author.Needs.{needs}
 use Rattle.ubios.proofs.Root.check.Statement.{statement}
 use Rattle.ubios.proofs.Root.check.Tie as tie
@@ -37,7 +36,7 @@ returns-2 c =
     let a = at-match .before .before .before .before .args in
     let passed = sym (at-match .before .before .check .ensures) ∙ at-match .table .given .1 in
     c .judge .ensures
-    ∙ ap (rootJudged _) (c .before .tail .ensures ∙ ap (λ (t : Table). drop (t .at) (a .region .now)) (passing rootHeader (a .base) (a .region .now) (a .address) _ passed .is))
+    ∙ ap (rootJudged _) (c .before .tail .ensures ∙ ap (λ (t : Table). drop (t .at) (a .region .now)) (passes-only rootHeader (a .base) (a .region .now) (a .address) _ passed .is))
     ∙ sym (root-judged (a .base) (a .region .now) (a .address) _ passed)
 
 pub check-spec : {M : Type 1} → statement M

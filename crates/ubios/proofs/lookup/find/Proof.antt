@@ -10,7 +10,8 @@ use Rattle.ubios.specs.Checks.{rootChecked}
 use Rattle.ubios.specs.Lookup.{badName, lookedUp}
 use Rattle.ubios.specs.declared.Table.{Table}
 use Rattle.ubios.specs.declared.RootChecked.the-variants.{Passed}
-use Rattle.ubios.proofs.Answers.{passing, Rooted, rooted, few-slots}
+use Rattle.ubios.specs.Statements.{Rooted}
+use Rattle.ubios.proofs.Answers.{root-passes-only}
 use Rattle.ubios.proofs.Walking.{bad-name, no-root, in-root}
 use borrow.Author.Needs.{needs}
 use Rattle.ubios.proofs.lookup.find.Statement.{statement}
@@ -52,10 +53,10 @@ passed c = sym (c .before .before .before .before .before .before .check .ensure
 
 known : (c : tie.After-tail2)
     → Rooted (start c .args .base) (start c .args .region .now) (start c .args .root) (c .before .before .before .before .r .given .0 .0)
-known c = let a = start c .args in rooted (a .base) (a .region .now) (a .root) _ (passed c)
+known c = let a = start c .args in root-passes-only (a .base) (a .region .now) (a .root) _ (passed c)
 
 walk-requires : tie.Need-walk-requires
-walk-requires c κs = (few-slots _ _ (known c .counted) .0, good (c .before .before .before .before .before .before .before))
+walk-requires c κs = (known c .few, good (c .before .before .before .before .before .before .before))
 
 returns-2 : tie.Need-returns-2
 returns-2 c =
@@ -67,7 +68,7 @@ returns-3 : tie.Need-returns-3
 returns-3 c =
     let at-root = c .before in
     let a = start at-root .args in
-    let table-at = ap (λ (t : Table). drop (t .at) (a .region .now)) (passing rootHeader (a .base) (a .region .now) (a .root) _ (known at-root .passes) .is) in
+    let table-at = ap (λ (t : Table). drop (t .at) (a .region .now)) (known at-root .table .is) in
     let slots = at-root .tail2 .ensures ∙ ap (drop rootHeader) (at-root .before .tail .ensures ∙ table-at) in
     c .walk .ensures
     ∙ ap₂ (λ (n : ℕ) (s : List ℕ). lookedUp (a .base) (a .region .now) (a .name .now) (addresses n s)) (known at-root .count) slots
