@@ -1,18 +1,19 @@
 -- The laws of the checks: one for each answer, with what leads there.
 -- Assumes nothing.
 use Prim.Native.Nat.{ℕ, _+_, _*_, _-_, _/_, _%_, _≤_, _<_}
-use mathlib.Core.Bool.{Bool, true, false, not}
-use mathlib.Core.Path.{_≡_, refl, subst, _∙_}
+use mathlib.Core.Bool.{true, false, not}
+use mathlib.Core.Path.{_≡_, refl, sym, ap, subst, _∙_}
 use mathlib.Core.List.{List}
-use borrow.Author.Tests.{lt-ltb, le-ltb, eq-eqb, ne-eqb, ltb-false, eqb-true, eqb-false}
+use borrow.Author.Tests.{lt-ltb, le-ltb, eq-eqb, ne-eqb, ltb-false, eqb-true, not-false}
 use native.Mathlib.Nat.{suc-mul, le-div-iff-mul-le}
 use native.Mathlib.Omega.{arith}
 use lib.Dec.{ltb, eqb}
 use lib.ListN.{length}
 use Rattle.le.specs.Sum.{sum}
-use Rattle.le.proofs.Tests.{apart, neither}
+use Rattle.le.proofs.Tests.{apart, neither, past}
 use Rattle.sfi.specs.Kinds.{wake, kindOf}
-use Rattle.sfi.specs.Checks.{headerSize, lengthMax, signatureOf, lengthOf, revisionOf, summedPart, badLength, wrongRevision, badEntries, judged, checked, entriesOf, entryAt, entryOf, passesAs}
+use Rattle.sfi.specs.Checks.{headerSize, lengthMax, signatureOf, lengthOf, revisionOf, summedPart, badLength, wrongRevision, badEntries, judged, judgedAs, checked, entriesOf, entryAt, entryOf, passesAs}
+use Rattle.sfi.specs.Statements.{Sized, Passing, PassesOnly}
 use Rattle.sfi.specs.declared.kind.Kind.{Kind}
 use Rattle.sfi.specs.declared.kind.Known.{Known}
 use Rattle.sfi.specs.declared.kind.Known.the-variants.{Is, Unknown}
@@ -44,22 +45,27 @@ module _ (size total : ℕ) where
       by-slice h = rw (le-ltb size headerSize holds, le-ltb total headerSize least, le-ltb lengthMax total h)
 
 -- what is known of a length that is not
-pub record Sized (size total : ℕ) : Type 0 where
-  pub least : headerSize ≤ total
-  pub most : total ≤ lengthMax
-  pub inside : total ≤ size
-
 pub sized : (size total : ℕ) → badLength size total ≡ false → Sized size total
 unfolding badLength
 sized size total e =
     let p = neither (ltb size headerSize) _ e in
     let q = neither (ltb total headerSize) _ (p .1) in
     let r = neither (ltb lengthMax total) _ (q .1) in
-    record { least = ltb-false total headerSize (q .0); most = ltb-false lengthMax total (r .0); inside = ltb-false size total (r .1) }
+    record {
+      slice = ltb-false size headerSize (p .0);
+      least = ltb-false total headerSize (q .0);
+      most = omega (arith, ltb-false lengthMax total (r .0));
+      inside = ltb-false size total (r .1);
+    }
 
--- a slice of just that length
-pub length-good : (total : ℕ) → headerSize ≤ total → total ≤ lengthMax → badLength total total ≡ false
-length-good total least most = by-slice total total least least most ∙ le-ltb total total (omega arith)
+-- a length that is good is so in a slice of just that length
+pub exact : (size total : ℕ) → badLength size total ≡ false → badLength total total ≡ false
+unfolding badLength
+exact size total e =
+    let p = neither (ltb size headerSize) _ e in
+    let q = neither (ltb total headerSize) _ (p .1) in
+    let r = neither (ltb lengthMax total) _ (q .1) in
+    rw (q .0, r .0, le-ltb total total (omega arith))
 
 -- which lengths do not go with a kind's entries
 module _ (kind : Kind) (total : ℕ) where
@@ -111,49 +117,40 @@ module _ (t : List ℕ) where
     unfolding checked
     known kind e = rw (size, e)
 
--- all that is known of a table that passes
-pub record Passing (t : List ℕ) (table : Table) : Type 0 where
-  pub sized : Sized (length t) (lengthOf t)
-  pub kind : kindOf (signatureOf t) ≡ Is (table .kind)
-  pub revision : wrongRevision (table .kind) (revisionOf t) ≡ false
-  pub entries : badEntries (table .kind) (lengthOf t) ≡ false
-  pub zero : sum 1 (summedPart t) ≡ 0
-  pub length-is : table .length ≡ lengthOf t
+-- past the test of Length
+pub past-length : (t : List ℕ) (table : Table) → checked t ≡ Passed table
+    → (badLength (length t) (lengthOf t) ≡ false) × (judgedAs (kindOf (signatureOf t)) t ≡ Passed table)
+unfolding checked
+past-length t table e = past (badLength (length t) (lengthOf t)) (λ q. apart (cc)) e
 
-pub passing : (t : List ℕ) (table : Table) → checked t ≡ Passed table → Passing t table
-passing t table e = by-length (badLength (length t) (lengthOf t)) refl
+pub passes-only : PassesOnly
+unfolding judged badEntries
+passes-only t table e =
+    let s = past-length t table e in
+    go (sized (length t) (lengthOf t) (s .0)) (kindOf (signatureOf t)) refl (s .1)
   where
-    by-sum : badLength (length t) (lengthOf t) ≡ false → (k : Kind) → kindOf (signatureOf t) ≡ Is k → wrongRevision k (revisionOf t) ≡ false → badEntries k (lengthOf t) ≡ false
-        → (b : Bool) → eqb (sum 1 (summedPart t)) 0 ≡ b → Passing t table
-    by-sum s k i r n true q =
-        let z = eqb-true (sum 1 (summedPart t)) 0 q in
-        let all = known t s k i ∙ judged-passed k t r n z in
-        let is : record { kind = k; length = lengthOf t } ≡ table = cc in
-        subst (Passing t) is (record { sized = sized (length t) (lengthOf t) s; kind = i; revision = r; entries = n; zero = z; length-is = refl })
-    by-sum s k i r n false q =
-        let all = known t s k i ∙ judged-sum k t r n (eqb-false (sum 1 (summedPart t)) 0 q) in apart (cc)
-
-    by-entries : badLength (length t) (lengthOf t) ≡ false → (k : Kind) → kindOf (signatureOf t) ≡ Is k → wrongRevision k (revisionOf t) ≡ false
-        → (b : Bool) → badEntries k (lengthOf t) ≡ b → Passing t table
-    by-entries s k i r true q = let all = known t s k i ∙ judged-entries k t r q in apart (cc)
-    by-entries s k i r false q = by-sum s k i r q (eqb (sum 1 (summedPart t)) 0) refl
-
-    by-revision : badLength (length t) (lengthOf t) ≡ false → (k : Kind) → kindOf (signatureOf t) ≡ Is k
-        → (b : Bool) → wrongRevision k (revisionOf t) ≡ b → Passing t table
-    by-revision s k i true q = let all = known t s k i ∙ judged-revision k t q in apart (cc)
-    by-revision s k i false q = by-entries s k i q (badEntries k (lengthOf t)) refl
-
-    by-kind : badLength (length t) (lengthOf t) ≡ false → (m : Known) → kindOf (signatureOf t) ≡ m → Passing t table
-    by-kind s (Is k) q = by-revision s k q (wrongRevision k (revisionOf t)) refl
-    by-kind s Unknown q = let all = unknown t s q in apart (cc)
-
-    by-length : (b : Bool) → badLength (length t) (lengthOf t) ≡ b → Passing t table
-    by-length true q = let all = bad-length t q in apart (cc)
-    by-length false q = by-kind q (kindOf (signatureOf t)) refl
+    go : Sized (length t) (lengthOf t) → (m : Known) → kindOf (signatureOf t) ≡ m → judgedAs m t ≡ Passed table → Passing t table
+    go s Unknown q e = apart (cc)
+    go s (Is k) q e =
+        let r = past (wrongRevision k (revisionOf t)) (λ z. apart (cc)) e in
+        let n = past (badEntries k (lengthOf t)) (λ z. apart (cc)) (r .1) in
+        let z = past (not (eqb (sum 1 (summedPart t)) 0)) (λ z. apart (cc)) (n .1) in
+        let even = eqb-true ((lengthOf t - headerSize) % k .entry) 0 (not-false _ (neither _ _ (n .0) .0)) in
+        let is : record { kind = k; length = lengthOf t } ≡ table = let all = z .1 in cc in
+        subst (Passing t) is
+        (record {
+          sized = s;
+          kind = q;
+          revision = eqb-true (revisionOf t) (k .revision) (not-false _ (r .0));
+          entries = even;
+          one-entry = λ w. eqb-true (lengthOf t) 32 (not-false _ (sym (wake-length k (lengthOf t) even (ap (λ (x : Kind). x .signature) w)) ∙ n .0));
+          zero = eqb-true (sum 1 (summedPart t)) 0 (not-false _ (z .0));
+          length-is = refl;
+        })
 
 -- a table that passes has the signature of its kind
 pub passes-as : (t : List ℕ) (table : Table) (signature : ℕ) → checked t ≡ Passed table → passesAs signature (checked t) ≡ eqb (signatureOf t) signature
-passes-as t table signature e = rw (e, listed (signatureOf t) (table .kind) (passing t table e .kind) .signed)
+passes-as t table signature e = rw (e, listed (signatureOf t) (table .kind) (passes-only t table e .kind) .signed)
 
 pub fails-as : (t : List ℕ) (reason : Reason) (signature : ℕ) → checked t ≡ Refused reason → passesAs signature (checked t) ≡ false
 fails-as t reason signature e = rw e

@@ -12,11 +12,10 @@ use lib.Dec.{ltb, eqb}
 use lib.ListN.{length, take, drop, drop-of-length-le}
 use lib.Seq.{length-take-le, take-all}
 use Rattle.le.specs.Word.{word}
-use Rattle.le.specs.Sum.{sum}
 use Rattle.le.proofs.Words.{word-within}
 use Rattle.le.proofs.Tests.{apart, never, both}
 use Rattle.sfi.specs.Kinds.{syst, among, kindOf}
-use Rattle.sfi.specs.Checks.{headerSize, signatureOf, lengthOf, revisionOf, badLength, wrongRevision, badEntries, checked, entriesOf, entryAt, passesAs}
+use Rattle.sfi.specs.Checks.{headerSize, signatureOf, lengthOf, judged, judgedAs, checked, entriesOf, entryAt, passesAs}
 use Rattle.sfi.specs.Search.{memorySize, step, tries, inPage, isHit, places, firstHit, located}
 use Rattle.sfi.specs.Statements.{SignaturesSpell, KindsKnown, Hit, HitIs, IsHit, FoundLowest, LowestFound, NoHit, NoneFound, Inside, EntryInside, EntryExactly, Chooses, Whole, PartPasses}
 use Rattle.sfi.specs.Choice.{between, asked, chosen, partOf}
@@ -33,7 +32,7 @@ use Rattle.sfi.specs.declared.search.Found.the-variants.{At, Refused}
 use Rattle.sfi.specs.declared.choice.Chosen.{Chosen}
 use Rattle.sfi.specs.declared.choice.Chosen.the-variants.{Board, BuiltIn, Refused as NotChosen}
 use Rattle.sfi.proofs.Listing.{listed}
-use Rattle.sfi.proofs.Answers.{short-slice, length-good, judged-passed, bad-length, known, passing, passes-as, entry-end, has-entry, no-entry, fails-as}
+use Rattle.sfi.proofs.Answers.{short-slice, exact, bad-length, past-length, passes-only, passes-as, entry-end, has-entry, no-entry, fails-as}
 use Rattle.sfi.proofs.Searching.{fails, hit, places-from, no-places, none-left, hit-here, further-on, bad-memory, searched, the-board, the-built-in, neither-one}
 
 pub signatures-spell : SignaturesSpell
@@ -62,7 +61,7 @@ hit-is memory offset e = go (checked (drop offset memory)) refl
     go : (c : Checked) → checked t ≡ c → Hit memory offset
     go (Failed reason) q = never (sym (p .0) ∙ fails-as t reason (syst .signature) q)
     go (Passed table) q =
-        let known = passing t table q in
+        let known = passes-only t table q in
         let signed : signatureOf t ≡ syst .signature = eqb-true (signatureOf t) (syst .signature) (sym (passes-as t table (syst .signature) q) ∙ p .0) in
         let page = leb-true (offset % 4096 + lengthOf t) 4096 (p .1) in
         record {
@@ -75,7 +74,7 @@ hit-is memory offset e = go (checked (drop offset memory)) refl
 pub is-hit : IsHit
 is-hit memory offset h =
     let t = drop offset memory in
-    let known = passing t (h .table) (h .passes) in
+    let known = passes-only t (h .table) (h .passes) in
     let signed : signatureOf t ≡ syst .signature =
     listed (signatureOf t) (h .table .kind) (known .kind) .signed ∙ ap (λ (k : Kind). k .signature) (h .kind) in
     hit memory offset (h .table) (h .passes) signed (omega (arith, known .length-is, known .sized .least, h .page))
@@ -230,7 +229,7 @@ entry-inside t table k offset passes e = go (ltb k (entriesOf table)) refl
     go : (b : Bool) → ltb k (entriesOf table) ≡ b → Inside t table k offset
     go true q =
         let h = ltb-true k (entriesOf table) q in
-        let p = passing t table passes in
+        let p = passes-only t table passes in
         let z = sym (has-entry t k table passes h) ∙ e in
         let place : offset ≡ entryAt table k = cc in
         let fits = entry-end (table .length - headerSize) (table .kind .entry) k (listed (signatureOf t) (table .kind) (p .kind) .entries) h in
@@ -250,7 +249,7 @@ at-most a b h = go (ltb a b) refl
 
 pub entry-exactly : EntryExactly
 entry-exactly t table k passes =
-    let p = passing t table passes in
+    let p = passes-only t table passes in
     let some = listed (signatureOf t) (table .kind) (p .kind) .entries in (
       λ h. has-entry t k table passes (le-div-iff-mul-le some .1 (rw suc-mul (omega (arith, p .length-is, p .sized .least)))),
       λ h. no-entry t k table passes (at-most k (entriesOf table) (λ l. absurd (omega (arith, entry-end (table .length - headerSize) (table .kind .entry) k some l, p .length-is, p .sized .least)))),
@@ -263,25 +262,27 @@ module _ (t : List ℕ) (table : Table) (passed : checked t ≡ Passed table) wh
 
   -- a word of the header is in them
   same-word : (k i : ℕ) → i + k ≤ headerSize → word k (drop i part) ≡ word k (drop i t)
-  same-word k i h = let p = passing t table passed in word-within k i (lengthOf t) t (omega (arith, p .sized .least)) (p .sized .inside)
+  same-word k i h = let p = passes-only t table passed in word-within k i (lengthOf t) t (omega (arith, p .sized .least)) (p .sized .inside)
 
   part-length : length part ≡ lengthOf t
-  part-length = length-take-le (lengthOf t) t (passing t table passed .sized .inside)
+  part-length = length-take-le (lengthOf t) t (passes-only t table passed .sized .inside)
 
   same-length : lengthOf part ≡ lengthOf t
   same-length = same-word 4 4 (omega arith)
 
+  -- so each test says the same of both
+  same-judged : (m : Known) → judgedAs m part ≡ judgedAs m t
+  unfolding judged
+  same-judged Unknown = refl
+  same-judged (Is k) =
+      let all : take (lengthOf t) part ≡ part = take-all (lengthOf t) part (rw part-length (omega arith)) in
+      rw (same-word 1 8 (omega arith), same-length, all)
+
   part-checked : checked part ≡ Passed table
+  unfolding checked
   part-checked =
-      let p = passing t table passed in
-      let good : badLength (length part) (lengthOf part) ≡ false = rw (part-length, same-length) (length-good (lengthOf t) (p .sized .least) (p .sized .most)) in
-      let kind : kindOf (signatureOf part) ≡ Is (table .kind) = ap (λ (n : ℕ). kindOf n) (same-word 4 0 (omega arith)) ∙ p .kind in
-      let revision : wrongRevision (table .kind) (revisionOf part) ≡ false = ap (wrongRevision (table .kind)) (same-word 1 8 (omega arith)) ∙ p .revision in
-      let entries : badEntries (table .kind) (lengthOf part) ≡ false = ap (badEntries (table .kind)) same-length ∙ p .entries in
-      let all : take (lengthOf part) part ≡ part = take-all (lengthOf part) part (rw (part-length, same-length) (omega arith)) in
-      known part good (table .kind) kind
-      ∙ judged-passed (table .kind) part revision entries (ap (sum 1) all ∙ p .zero)
-      ∙ ap (λ (n : ℕ). Passed (record { kind = table .kind; length = n })) (same-length ∙ sym (p .length-is))
+      let p = past-length t table passed in
+      rw (part-length, same-length, exact (length t) (lengthOf t) (p .0), same-word 4 0 (omega arith), same-judged) (p .1)
 
 -- what is chosen passes
 whole : (signature : ℕ) (t : List ℕ) → passesAs signature (checked t) ≡ true → Whole signature t (take (lengthOf t) t)
@@ -326,15 +327,24 @@ module _ (signature : ℕ) (board built-in : List ℕ) where
       go false qa false qb = let z = sym (neither-one signature board built-in qa qb) ∙ two in apart (cc)
 
 pub chooses : Chooses
-chooses signature kind board built-in known-kind =
-    let ask = ap (λ (m : Known). asked m signature board built-in) known-kind in (
-      λ b. ask ∙ the-board signature board built-in b,
-      λ b i. ask ∙ the-built-in signature board built-in b i,
-      λ b i. ask ∙ neither-one signature board built-in b i,
-    )
+chooses signature board built-in = (
+  λ unknown. ask unknown,
+  λ kind known. (
+    λ b. ask known ∙ the-board signature board built-in b,
+    λ b i. ask known ∙ the-built-in signature board built-in b i,
+    λ b i. ask known ∙ neither-one signature board built-in b i,
+  ),
+)
+  where
+    ask : {m : Known} → kindOf signature ≡ m → chosen signature board built-in ≡ asked m signature board built-in
+    ask e = ap (λ (m : Known). asked m signature board built-in) e
 
 pub part-passes : PartPasses
 part-passes signature board built-in = (
-  λ e. subst (λ (p : List ℕ). Whole signature board p) (sym (ap (λ (c : Chosen). partOf c board built-in) e)) (whole signature board (board-passes signature board built-in e)),
-  λ e. subst (λ (p : List ℕ). Whole signature built-in p) (sym (ap (λ (c : Chosen). partOf c board built-in) e)) (whole signature built-in (built-in-passes signature board built-in e)),
+  λ e. subst (λ (p : List ℕ). Whole signature board p) (sym (part-is e)) (whole signature board (board-passes signature board built-in e)),
+  λ e. subst (λ (p : List ℕ). Whole signature built-in p) (sym (part-is e)) (whole signature built-in (built-in-passes signature board built-in e)),
+  λ reason e. part-is e,
 )
+  where
+    part-is : {c : Chosen} → chosen signature board built-in ≡ c → partOf (chosen signature board built-in) board built-in ≡ partOf c board built-in
+    part-is e = ap (λ (c : Chosen). partOf c board built-in) e

@@ -1,22 +1,24 @@
--- What is proved of the tables, the search and the choice. The proofs are in `proofs/Theorems.antt`, that of `laid-passes` in `proofs/Laid.antt`, under the names given here.
+-- What is proved of the tables, the search and the choice, under the names given here. The proofs are in `proofs/Theorems.antt`, that of `laid-passes` in
+-- `proofs/Laid.antt`, that of `passes-only` in `proofs/Answers.antt`.
 -- Assumes nothing.
 use Prim.Native.Nat.{ℕ, _+_, _*_, _-_, _/_, _%_, _≤_, _<_}
 use mathlib.Core.Bool.{true, false}
 use mathlib.Core.Path.{_≡_}
 use mathlib.Core.List.{List, [], _∷_, _++_}
-use lib.ListN.{length, drop}
+use lib.ListN.{length, take, drop}
 use Rattle.le.specs.Word.{word, bytes}
-use Rattle.le.specs.Sum.{checksumOf}
+use Rattle.le.specs.Sum.{sum, checksumOf}
 use Rattle.sfi.specs.Kinds.{syst, cpus, apic, mmap, freq, mrtc, devs, gpio, mtmr, wake, kindOf}
-use Rattle.sfi.specs.Checks.{headerSize, lengthMax, lengthOf, checked, entryOf, passesAs}
+use Rattle.sfi.specs.Checks.{headerSize, signatureOf, lengthOf, revisionOf, checked, entryOf, passesAs}
 use Rattle.sfi.specs.Search.{isHit, located}
 use Rattle.sfi.specs.Choice.{chosen, partOf}
 use Rattle.sfi.specs.declared.kind.Kind.{Kind}
-use Rattle.sfi.specs.declared.kind.Known.the-variants.{Is}
+use Rattle.sfi.specs.declared.kind.Known.the-variants.{Is, Unknown}
 use Rattle.sfi.specs.declared.Table.{Table}
 use Rattle.sfi.specs.declared.Checked.the-variants.{Passed}
 use Rattle.sfi.specs.declared.Entry.the-variants.{At as EntryAt, Refused as NotThere}
-use Rattle.sfi.specs.declared.Reason.the-variants.{NoEntry, NoSyst, Neither}
+use Rattle.sfi.specs.declared.Reason.{Reason}
+use Rattle.sfi.specs.declared.Reason.the-variants.{UnknownSignature, NoEntry, NoSyst, Neither}
 use Rattle.sfi.specs.declared.search.Found.the-variants.{At, Refused}
 use Rattle.sfi.specs.declared.choice.Chosen.the-variants.{Board, BuiltIn, Refused as NotChosen}
 
@@ -47,6 +49,27 @@ KindsKnown =
     × (kindOf (gpio .signature) ≡ Is gpio)
     × (kindOf (mtmr .signature) ≡ Is mtmr)
     × (kindOf (wake .signature) ≡ Is wake)
+
+-- Length of a table in a slice of that size
+pub record Sized (size total : ℕ) : Type 0 where
+  pub slice : 24 ≤ size
+  pub least : 24 ≤ total
+  pub most : total ≤ 65536
+  pub inside : total ≤ size
+
+-- `passes-only`. What passes has a Length in its bounds and of whole entries, one of them in WAKE, the signature and the revision of its kind, and Length bytes that sum
+-- to 0; the answer is that kind, and Length.
+pub record Passing (t : List ℕ) (table : Table) : Type 0 where
+  pub sized : Sized (length t) (lengthOf t)
+  pub kind : kindOf (signatureOf t) ≡ Is (table .kind)
+  pub revision : revisionOf t ≡ table .kind .revision
+  pub entries : (lengthOf t - 24) % table .kind .entry ≡ 0
+  pub one-entry : table .kind ≡ wake → lengthOf t ≡ 32
+  pub zero : sum 1 (take (lengthOf t) t) ≡ 0
+  pub length-is : table .length ≡ lengthOf t
+
+abbrev pub PassesOnly : Type 0
+PassesOnly = (t : List ℕ) (table : Table) → checked t ≡ Passed table → Passing t table
 
 -- `hit-is`, `is-hit`. A hit is SYST that passes, with its first and its last byte in the same page of 4,096 bytes.
 pub record Hit (memory : List ℕ) (offset : ℕ) : Type 0 where
@@ -102,16 +125,19 @@ EntryExactly =
     → (headerSize + (k * table .kind .entry + table .kind .entry) ≤ table .length → entryOf t k ≡ EntryAt (headerSize + k * table .kind .entry))
     × (table .length < headerSize + (k * table .kind .entry + table .kind .entry) → entryOf t k ≡ NotThere NoEntry)
 
--- `chooses`. Of a known signature the board's table is chosen if it passes with it, else the built-in one if that does, else there is none.
+-- `chooses`. An unknown signature gets 42. Of a known one the board's table is chosen if it passes with it, else the built-in one if that does, else 48 is given.
 abbrev pub Chooses : Type 0
 Chooses =
-    (signature : ℕ) (kind : Kind) (board built-in : List ℕ)
+    (signature : ℕ) (board built-in : List ℕ)
+    → (kindOf signature ≡ Unknown → chosen signature board built-in ≡ NotChosen UnknownSignature)
+    × ((kind : Kind)
     → kindOf signature ≡ Is kind
     → (passesAs signature (checked board) ≡ true → chosen signature board built-in ≡ Board)
     × (passesAs signature (checked board) ≡ false → passesAs signature (checked built-in) ≡ true → chosen signature board built-in ≡ BuiltIn)
-    × (passesAs signature (checked board) ≡ false → passesAs signature (checked built-in) ≡ false → chosen signature board built-in ≡ NotChosen Neither)
+    × (passesAs signature (checked board) ≡ false → passesAs signature (checked built-in) ≡ false → chosen signature board built-in ≡ NotChosen Neither))
 
--- `part-passes`. The part that is chosen is a table as a whole: it passes with the signature that was asked for, and its Length is its length.
+-- `part-passes`. The part that is chosen is a table as a whole: it passes with the signature that was asked for, and its Length is its length. Where the choice
+-- refuses, it is no bytes.
 pub record Whole (signature : ℕ) (t part : List ℕ) : Type 0 where
   pub passes : passesAs signature (checked part) ≡ true
   pub same-answer : checked part ≡ checked t
@@ -122,6 +148,7 @@ PartPasses =
     (signature : ℕ) (board built-in : List ℕ)
     → (chosen signature board built-in ≡ Board → Whole signature board (partOf (chosen signature board built-in) board built-in))
     × (chosen signature board built-in ≡ BuiltIn → Whole signature built-in (partOf (chosen signature board built-in) board built-in))
+    × ((reason : Reason) → chosen signature board built-in ≡ NotChosen reason → partOf (chosen signature board built-in) board built-in ≡ [])
 
 -- a table as the rules lay it out: signature, Length, Revision, Checksum, the two OEM strings, the entries
 abbrev pub headOf : Kind → ℕ → List ℕ
@@ -140,5 +167,5 @@ LaidPasses =
     → length oem ≡ 14
     → length entries ≡ n * kind .entry
     → (kind .signature ≡ wake .signature → n ≡ 1)
-    → headerSize + length entries ≤ lengthMax
+    → headerSize + length entries ≤ 65536
     → checked (tableOf kind oem entries ++ rest) ≡ Passed (record { kind = kind; length = headerSize + length entries })

@@ -9,7 +9,7 @@ use kind::Known;
 ghost use mathlib.Core.Path.{_≡_};
 ghost use Prim.Native.Nat.{_≤_, _<_};
 ghost use Rattle.sfi.specs.declared.Checked.the-variants.{Passed};
-ghost use Rattle.sfi.specs.Checks.{headerSize, lengthMax, lengthOf, numberOf, badLength, wrongRevision, badEntries, judged, checked, entryIn, entryOf};
+ghost use Rattle.sfi.specs.Checks.{headerSize, lengthOf, numberOf, badLength, wrongRevision, badEntries, judged, checked, entryIn, entryOf};
 
 // A table that passes its checks: its kind, and its Length.
 pub struct Table {
@@ -155,7 +155,7 @@ impl Table {
 
     // Where entry k starts in this table, or 45.
     fn find_entry(self, k: usize) -> Entry
-        requires { ⌜ (0 < self .kind .entry) × (headerSize ≤ self .length) × (self .length ≤ lengthMax) ⌝ }
+        requires { ⌜ (0 < self .kind .entry) × (headerSize ≤ self .length) ⌝ }
         ensures { λ r. ⌜ r ≡ entryIn (Passed self) k ⌝ }
     {
         let size = self.kind.entry;

@@ -6,7 +6,7 @@ use Rattle.sfi.specs.Checks.{checked, entryIn}
 use Rattle.sfi.specs.declared.Checked.{Checked}
 use Rattle.sfi.specs.declared.Checked.the-variants.{Passed}
 use Rattle.sfi.proofs.Listing.{listed}
-use Rattle.sfi.proofs.Answers.{passing}
+use Rattle.sfi.proofs.Answers.{passes-only}
 use borrow.Author.Needs.{needs}
 use Rattle.sfi.proofs.Table.entry.Statement.{statement}
 use Rattle.sfi.proofs.Table.entry.Tie as tie
@@ -29,8 +29,8 @@ passed c = sym (c .before .before .before .check .ensures) ∙ c .before .t .giv
 
 find-entry-requires : tie.Need-find-entry-requires
 find-entry-requires c κs =
-    let p = passing (start c .args .table .now) _ (passed c) in
-    (listed _ _ (p .kind) .entries, omega (arith, p .length-is, p .sized .least), omega (arith, p .length-is, p .sized .most))
+    let p = passes-only (start c .args .table .now) _ (passed c) in
+    (listed _ _ (p .kind) .entries, omega (arith, p .length-is, p .sized .least))
 
 returns : tie.Need-returns
 returns c =
