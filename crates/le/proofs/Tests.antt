@@ -22,6 +22,11 @@ pub neither : (a b : Bool) → a || b ≡ false → (a ≡ false) × (b ≡ fals
 neither true b e = never e
 neither false b e = (refl, e)
 
+-- the first branch is taken
+pub taken : {A : Type 0} {x : A} (y : A) (b : Bool) → b ≡ true → cond b x y ≡ x
+taken y true e = refl
+taken y false e = never (sym e)
+
 -- what is not the first branch is the second, and the test is false
 pub past : {A : Type 0} {x y z : A} (b : Bool) → (x ≡ z → ⊥) → cond b x y ≡ z → (b ≡ false) × (y ≡ z)
 past true other e = absurd (other e)

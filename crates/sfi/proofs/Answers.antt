@@ -10,7 +10,7 @@ use native.Mathlib.Omega.{arith}
 use lib.Dec.{ltb, eqb}
 use lib.ListN.{length}
 use Rattle.le.specs.Sum.{sum}
-use Rattle.le.proofs.Tests.{apart, neither, past}
+use Rattle.le.proofs.Tests.{apart, neither, taken, past}
 use Rattle.sfi.specs.Kinds.{wake, kindOf}
 use Rattle.sfi.specs.Checks.{headerSize, lengthMax, signatureOf, lengthOf, revisionOf, summedPart, badLength, wrongRevision, badEntries, judged, judgedAs, checked, entriesOf, entryAt, entryOf, passesAs}
 use Rattle.sfi.specs.Statements.{Sized, Passing, PassesOnly}
@@ -106,7 +106,7 @@ module _ (kind : Kind) (t : List ℕ) where
 module _ (t : List ℕ) where
   pub bad-length : badLength (length t) (lengthOf t) ≡ true → checked t ≡ Refused BadLength
   unfolding checked
-  bad-length e = rw e
+  bad-length e = taken _ (badLength (length t) (lengthOf t)) e
 
   module _ (size : badLength (length t) (lengthOf t) ≡ false) where
     pub unknown : kindOf (signatureOf t) ≡ Unknown → checked t ≡ Refused UnknownSignature

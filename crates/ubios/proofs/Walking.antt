@@ -12,7 +12,7 @@ use lib.ListN.{drop}
 use lib.Seq.{drop-drop}
 use Rattle.le.specs.Word.{word}
 use Rattle.le.specs.Compare.{same}
-use Rattle.le.proofs.Tests.{apart, both}
+use Rattle.le.proofs.Tests.{apart, both, taken}
 use Rattle.ubios.specs.Layout.{tableHeader, nameOf, isGap, addresses, slotsOf}
 use Rattle.ubios.specs.Checks.{tableAt, checked, rootChecked}
 use Rattle.ubios.specs.Lookup.{badName, passes, leads, bodyOf, bodyAt, hits, answerOf, lookedUp, found}
@@ -225,7 +225,7 @@ module _ (base : ℕ) (region name : List ℕ) where
 module _ (base : ℕ) (region : List ℕ) (root : ℕ) (name : List ℕ) where
   pub bad-name : badName name ≡ true → found base region root name ≡ Refuses BadName
   unfolding found
-  bad-name e = rw e
+  bad-name e = taken _ (badName name) e
 
   module _ (good : badName name ≡ false) where
     pub no-root : (reason : Reason) → rootChecked base region root ≡ RootRefused reason → found base region root name ≡ Refuses reason

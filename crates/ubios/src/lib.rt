@@ -143,10 +143,12 @@ fn judge(header: usize, at: usize, table: &[u8]) -> Checked
 fn check(header: usize, region: &[u8], base: u64, address: u64) -> Checked
     ensures { λ r. ⌜ r ≡ checked header base (now (region .entry)) address ⌝ }
 {
-    if address % 8 != 0 {
+    let misaligned = address % 8 != 0;
+    let outside = is_outside(header, base, region.len(), address);
+    if misaligned {
         return Checked::Refused(Reason::Misaligned);
     }
-    if is_outside(header, base, region.len(), address) {
+    if outside {
         return Checked::Refused(Reason::Outside);
     }
     let at = (address - base) as usize;
