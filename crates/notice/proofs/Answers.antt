@@ -2,14 +2,15 @@
 -- Assumes nothing.
 use Prim.Native.Nat.{ℕ, _+_, _-_, _%_, _≤_, _<_}
 use mathlib.Core.Bool.{Bool, true, false, not}
-use mathlib.Core.Path.{_≡_, refl}
+use mathlib.Core.Path.{_≡_, refl, _∙_}
 use mathlib.Core.List.{List}
-use borrow.Author.Tests.{lt-ltb, le-ltb, lt-leb, le-leb, eq-eqb, ne-eqb, ltb-false, leb-true, leb-false}
+use borrow.Author.Tests.{lt-ltb, le-ltb, lt-leb, le-leb, eq-eqb, ne-eqb, ltb-false, leb-false}
+use native.Mathlib.Nat.{mod-eq-of-lt, mod-eq-sub-mod}
 use native.Mathlib.Omega.{arith}
 use lib.Dec.{ltb, leb, eqb}
 use lib.ListN.{length}
-use Rattle.le.proofs.Tests.{neither}
-use Rattle.notice.specs.Ring.{dataMax, headerSize, badRing, waiting, isEmpty, free, moved, posted, idAt, lengthAt, takenOf}
+use Rattle.le.proofs.Tests.{neither, agree}
+use Rattle.notice.specs.Ring.{headerSize, badRing, isBetween, waiting, isEmpty, free, isLong, isFull, moved, posted, idAt, lengthAt, damaged, isShort, takenOf}
 use Rattle.notice.specs.declared.Positions.{Positions}
 use Rattle.notice.specs.declared.Reason.the-variants.{BadRing, Empty, Damaged, OutputShort, DataLong, Full}
 use Rattle.notice.specs.declared.Posted.the-variants.{Stored, Refused as NotPosted}
@@ -58,31 +59,53 @@ good c at e =
       write = leb-false c (at .write) (s .1);
     }
 
--- how many bytes wait
-module _ (c : ℕ) (at : Positions) where
-  pub waits-between : at .read ≤ at .write → waiting c at ≡ at .write - at .read
-  unfolding waiting
-  waits-between h = rw (le-leb (at .read) (at .write) h)
+-- how many bytes wait: by which position is behind the other
+pub between : (at : Positions) → at .read ≤ at .write → isBetween at ≡ true
+between at h = le-leb (at .read) (at .write) h
 
-  pub waits-round : at .write < at .read → waiting c at ≡ c - at .read + at .write
+pub round : (at : Positions) → at .write < at .read → isBetween at ≡ false
+round at h = lt-leb (at .read) (at .write) h
+
+module _ (c : ℕ) (at : Positions) where
+  pub waits-between : isBetween at ≡ true → waiting c at ≡ at .write - at .read
   unfolding waiting
-  waits-round h = rw (lt-leb (at .read) (at .write) h)
+  waits-between e = rw e
+
+  pub waits-round : isBetween at ≡ false → waiting c at ≡ c - at .read + at .write
+  unfolding waiting
+  waits-round e = rw e
 
   pub waits-less : at .read < c → at .write < c → waiting c at < c
-  waits-less r w = go (leb (at .read) (at .write)) refl
+  waits-less r w = go (isBetween at) refl
     where
-      go : (b : Bool) → leb (at .read) (at .write) ≡ b → waiting c at < c
-      go true e = rw (waits-between (leb-true (at .read) (at .write) e)) (omega arith)
-      go false e = let h = leb-false (at .read) (at .write) e in rw (waits-round h) (omega arith)
+      go : (b : Bool) → isBetween at ≡ b → waiting c at < c
+      go true e = rw (waits-between e) (omega arith)
+      go false e = let h = leb-false (at .read) (at .write) e in rw (waits-round e) (omega arith)
 
+-- where a position moves to
 module _ (c at n : ℕ) where
   pub moved-inside : at + n < c → moved c at n ≡ at + n
   unfolding moved
-  moved-inside h = rw (lt-ltb (at + n) c h)
+  moved-inside h = mod-eq-of-lt h
 
-  pub moved-past : c ≤ at + n → moved c at n ≡ at + n - c
+  pub moved-past : at < c → n ≤ c → c ≤ at + n → moved c at n ≡ at + n - c
   unfolding moved
-  moved-past h = rw (le-ltb (at + n) c h)
+  moved-past b l h = mod-eq-sub-mod h ∙ mod-eq-of-lt (omega arith)
+
+-- whether a notice with n bytes of data fits what is free
+module _ (c : ℕ) (at : Positions) (n : ℕ) where
+  pub no-room : free c at < headerSize + n → isFull c at n ≡ true
+  no-room h = lt-ltb (free c at) (headerSize + n) h
+
+  pub has-room : headerSize + n ≤ free c at → isFull c at n ≡ false
+  has-room h = le-ltb (free c at) (headerSize + n) h
+
+  -- counted behind the header
+  pub by-rest : headerSize ≤ free c at → isFull c at n ≡ ltb (free c at - headerSize) n
+  by-rest h = agree (free c at) (headerSize + n) (free c at - headerSize) n (λ l. omega arith) (λ l. omega arith)
+
+  pub room-left : isFull c at n ≡ false → headerSize + n ≤ free c at
+  room-left e = ltb-false (free c at) (headerSize + n) e
 
 module _ (ring : List ℕ) (at : Positions) (id : ℕ) (body : List ℕ) where
   pub post-bad : badRing (length ring) at ≡ true → posted ring at id body ≡ NotPosted BadRing
@@ -90,18 +113,34 @@ module _ (ring : List ℕ) (at : Positions) (id : ℕ) (body : List ℕ) where
   post-bad h = rw h
 
   module _ (ok : badRing (length ring) at ≡ false) where
-    pub post-long : dataMax < length body → posted ring at id body ≡ NotPosted DataLong
+    pub post-long : isLong (length body) ≡ true → posted ring at id body ≡ NotPosted DataLong
     unfolding posted
-    post-long h = rw (ok, lt-ltb dataMax (length body) h)
+    post-long h = rw (ok, h)
 
-    pub post-full : length body ≤ dataMax → free (length ring) at < headerSize + length body → posted ring at id body ≡ NotPosted Full
+    pub post-full : isLong (length body) ≡ false → isFull (length ring) at (length body) ≡ true → posted ring at id body ≡ NotPosted Full
     unfolding posted
-    post-full h f = rw (ok, le-ltb dataMax (length body) h, lt-ltb (free (length ring) at) (headerSize + length body) f)
+    post-full h f = rw (ok, h, f)
 
-    pub post-stored : length body ≤ dataMax → headerSize + length body ≤ free (length ring) at
+    pub post-stored : isLong (length body) ≡ false → isFull (length ring) at (length body) ≡ false
         → posted ring at id body ≡ Stored (record { read = at .read; write = moved (length ring) (at .write) (headerSize + length body) })
     unfolding posted
-    post-stored h f = rw (ok, le-ltb dataMax (length body) h, le-ltb (free (length ring) at) (headerSize + length body) f)
+    post-stored h f = rw (ok, h, f)
+
+-- which notices are damaged
+module _ (ring : List ℕ) (at : Positions) where
+  pub few-wait : waiting (length ring) at < headerSize → damaged ring at ≡ true
+  few-wait h = rw (lt-ltb (waiting (length ring) at) headerSize h)
+
+  module _ (head : headerSize ≤ waiting (length ring) at) where
+    pub over-long : isLong (lengthAt ring at) ≡ true → damaged ring at ≡ true
+    over-long h = rw (le-ltb (waiting (length ring) at) headerSize head, h)
+
+    module _ (small : isLong (lengthAt ring at) ≡ false) where
+      pub past-waiting : waiting (length ring) at - headerSize < lengthAt ring at → damaged ring at ≡ true
+      past-waiting h = rw (le-ltb (waiting (length ring) at) headerSize head, small, lt-ltb (waiting (length ring) at - headerSize) (lengthAt ring at) h)
+
+      pub undamaged : lengthAt ring at ≤ waiting (length ring) at - headerSize → damaged ring at ≡ false
+      undamaged h = rw (le-ltb (waiting (length ring) at) headerSize head, small, le-ltb (waiting (length ring) at - headerSize) (lengthAt ring at) h)
 
 module _ (ring : List ℕ) (at : Positions) (out : List ℕ) where
   pub take-bad : badRing (length ring) at ≡ true → takenOf ring at out ≡ NotTaken BadRing
@@ -114,51 +153,18 @@ module _ (ring : List ℕ) (at : Positions) (out : List ℕ) where
     take-empty e = rw (ok, e)
 
     module _ (some : isEmpty at ≡ false) where
-      pub take-few : waiting (length ring) at < headerSize → takenOf ring at out ≡ NotTaken Damaged
+      pub take-damaged : damaged ring at ≡ true → takenOf ring at out ≡ NotTaken Damaged
       unfolding takenOf
-      take-few h = rw (ok, some, lt-ltb (waiting (length ring) at) headerSize h)
+      take-damaged h = rw (ok, some, h)
 
-      module _ (head : headerSize ≤ waiting (length ring) at) where
-        pub take-over : dataMax < lengthAt ring at → takenOf ring at out ≡ NotTaken Damaged
+      module _ (sound : damaged ring at ≡ false) where
+        pub take-short : isShort ring at out ≡ true → takenOf ring at out ≡ NotTaken OutputShort
         unfolding takenOf
-        take-over h = rw (ok, some, le-ltb (waiting (length ring) at) headerSize head, lt-ltb dataMax (lengthAt ring at) h)
+        take-short h = rw (ok, some, sound, h)
 
-        module _ (small : lengthAt ring at ≤ dataMax) where
-          pub take-beyond : waiting (length ring) at - headerSize < lengthAt ring at → takenOf ring at out ≡ NotTaken Damaged
-          unfolding takenOf
-          take-beyond h =
-              rw (
-                ok,
-                some,
-                le-ltb (waiting (length ring) at) headerSize head,
-                le-ltb dataMax (lengthAt ring at) small,
-                lt-ltb (waiting (length ring) at - headerSize) (lengthAt ring at) h,
-              )
-
-          module _ (whole : lengthAt ring at ≤ waiting (length ring) at - headerSize) where
-            pub take-short : length out < lengthAt ring at → takenOf ring at out ≡ NotTaken OutputShort
-            unfolding takenOf
-            take-short h =
-                rw (
-                  ok,
-                  some,
-                  le-ltb (waiting (length ring) at) headerSize head,
-                  le-ltb dataMax (lengthAt ring at) small,
-                  le-ltb (waiting (length ring) at - headerSize) (lengthAt ring at) whole,
-                  lt-ltb (length out) (lengthAt ring at) h,
-                )
-
-            pub take-notice : lengthAt ring at ≤ length out
-                → takenOf ring at out
-                ≡ Notice (idAt ring at) (lengthAt ring at)
-                (record { read = moved (length ring) (at .read) (headerSize + lengthAt ring at); write = at .write })
-            unfolding takenOf
-            take-notice h =
-                rw (
-                  ok,
-                  some,
-                  le-ltb (waiting (length ring) at) headerSize head,
-                  le-ltb dataMax (lengthAt ring at) small,
-                  le-ltb (waiting (length ring) at - headerSize) (lengthAt ring at) whole,
-                  le-ltb (length out) (lengthAt ring at) h,
-                )
+        pub take-notice : isShort ring at out ≡ false
+            → takenOf ring at out
+            ≡ Notice (idAt ring at) (lengthAt ring at)
+            (record { read = moved (length ring) (at .read) (headerSize + lengthAt ring at); write = at .write })
+        unfolding takenOf
+        take-notice h = rw (ok, some, sound, h)

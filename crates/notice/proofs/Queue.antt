@@ -3,25 +3,26 @@
 --     post-keeps    a post is seen alike on both, and keeps it
 --     take-keeps    so is a take
 -- Assumes nothing.
-use Prim.Native.Nat.{ℕ, _+_, _-_, _^_, _≤_, _<_}
+use Prim.Native.Nat.{ℕ, _+_, _-_, _%_, _^_, _≤_, _<_}
 use mathlib.Core.Bool.{Bool, true, false}
 use mathlib.Core.Path.{_≡_, refl, sym, ap, ap₂, _∙_}
 use mathlib.Core.List.{List, [], _∷_, _++_, append-assoc, append-nil}
+use native.Mathlib.Nat.{mod-add-mod}
 use native.Mathlib.Omega.{arith}
-use borrow.Author.Tests.{ltb-true, ltb-false, lt-leb, eq-eqb, ne-eqb}
+use borrow.Author.Tests.{ltb-true, ltb-false, le-ltb, lt-leb, eq-eqb, ne-eqb}
 use lib.Dec.{ltb}
 use lib.ListN.{length, take, drop, length-append, length-take, take-append-drop}
 use lib.Seq.{take-at, drop-at}
 use Rattle.le.specs.Word.{word, bytes}
 use Rattle.le.proofs.Words.{word-bytes, length-bytes}
-use Rattle.notice.specs.Ring.{dataMax, headerSize, badRing, waiting, isEmpty, moved, turned, stored, noticeOf, posted, takenOf, idAt, lengthAt}
+use Rattle.notice.specs.Ring.{dataMax, headerSize, badRing, waiting, isEmpty, moved, turned, stored, noticeOf, posted, takenOf, idAt, lengthAt, damaged}
 use Rattle.notice.specs.Queue.{Notice, accepted, given, nothing, Step, Ring, postStep, takeStep, size, sizes, queuePost, queueTake, flat}
 use Rattle.notice.specs.Statements.{Capacity}
 use Rattle.notice.specs.declared.Positions.{Positions}
 use Rattle.notice.specs.declared.Reason.the-variants.{OutputShort}
 use Rattle.notice.specs.declared.Taken.the-variants.{Notice as Got}
 use Rattle.notice.proofs.Turning.{length-turned, turned-back, turned-moved, turned-stored, length-stored, stored-join, moved-below}
-use Rattle.notice.proofs.Answers.{by-write, waits-between, waits-round, moved-inside, moved-past, post-long, post-full, post-stored, take-empty, take-short, take-notice}
+use Rattle.notice.proofs.Answers.{by-write, between, round, waits-between, waits-round, moved-inside, moved-past, no-room, has-room, post-long, post-full, post-stored, undamaged, take-empty, take-short, take-notice}
 
 -- the lengths of notices
 pub length-notice : (n : Notice) → length (noticeOf (n .id) (n .body)) ≡ size n
@@ -50,21 +51,9 @@ sizes-more (m ∷ q) n = let rest = sizes-more q n in omega arith
 pub moved-none : (c at : ℕ) → at < c → moved c at 0 ≡ at
 moved-none c at h = moved-inside c at 0 (omega arith) ∙ omega arith
 
-moved-moved : (c at a b : ℕ) → at < c → a + b < c → moved c (moved c at a) b ≡ moved c at (a + b)
-moved-moved c at a b h l = go (ltb (at + a) c) refl (ltb (at + (a + b)) c) refl
-  where
-    go : (x : Bool) → ltb (at + a) c ≡ x → (y : Bool) → ltb (at + (a + b)) c ≡ y → moved c (moved c at a) b ≡ moved c at (a + b)
-    go true e true f =
-        let i = ltb-true (at + a) c e in
-        let j = ltb-true (at + (a + b)) c f in
-        rw (moved-inside c at a i, moved-inside c (at + a) b (omega arith), moved-inside c at (a + b) j) (omega arith)
-    go true e false f =
-        let i = ltb-true (at + a) c e in
-        let j = ltb-false (at + (a + b)) c f in
-        rw (moved-inside c at a i, moved-past c (at + a) b (omega arith), moved-past c at (a + b) j) (omega arith)
-    go false e y f =
-        let i = ltb-false (at + a) c e in
-        rw (moved-past c at a i, moved-inside c (at + a - c) b (omega arith), moved-past c at (a + b) (omega arith)) (omega arith)
+moved-moved : (c at a b : ℕ) → moved c (moved c at a) b ≡ moved c at (a + b)
+unfolding moved
+moved-moved c at a b = mod-add-mod (at + a) c b ∙ ap (λ n. n % c) (let e : at + a + b ≡ at + (a + b) = omega arith in e)
 
 -- so many bytes wait as the write position is past the read position
 pub waits-moved : (c : ℕ) (at : Positions) (s : ℕ) → at .read < c → s < c → at .write ≡ moved c (at .read) s → waiting c at ≡ s
@@ -74,11 +63,11 @@ waits-moved c at s h l e = go (ltb (at .read + s) c) refl
     go true f =
         let i = ltb-true (at .read + s) c f in
         let w = e ∙ moved-inside c (at .read) s i in
-        waits-between c at (omega arith) ∙ omega arith
+        waits-between c at (between at (omega arith)) ∙ omega arith
     go false f =
         let i = ltb-false (at .read + s) c f in
-        let w = e ∙ moved-past c (at .read) s i in
-        waits-round c at (omega arith) ∙ omega arith
+        let w = e ∙ moved-past c (at .read) s h (omega arith) i in
+        waits-round c at (round at (omega arith)) ∙ omega arith
 
 -- what is known of the notices that wait
 pub record Fit (n : Notice) : Type 0 where
@@ -137,7 +126,7 @@ module _ (r : Ring) (q : List Notice) (h : Holds r q) where
   c = length (r .bytes)
 
   written : r .at .write < c
-  written = rw (h .write) (let l = h .room in moved-below c (r .at .read) (sizes q) (h .read) (omega arith))
+  written = rw (h .write) (moved-below c (r .at .read) (sizes q) (h .read))
 
   ok : badRing c (r .at) ≡ false
   ok = by-write c (r .at) (h .legal .least) (h .legal .most) (h .legal .aligned) (h .read) ∙ lt-leb c (r .at .write) written
@@ -159,14 +148,14 @@ module _ (r : Ring) (q : List Notice) (h : Holds r q) where
         let more = sizes-more q n in
         let stand = post-stands (r .bytes) (flat q) bs (r .at .read) (r .at .write) (h .read) (omega arith) (h .write ∙ ap (moved c (r .at .read)) (sym all)) (ap (λ k. take k (turned (r .at .read) (r .bytes))) all ∙ h .stands) in
         let count : sizes (q ++ (n ∷ [])) ≡ length (flat q) + length bs = omega arith in
-        same-steps (ap (λ a. postStep a r n) (post-stored (r .bytes) (r .at) (n .id) (n .body) ok short (rw waits fits))) refl
+        same-steps (ap (λ a. postStep a r n) (post-stored (r .bytes) (r .at) (n .id) (n .body) ok (le-ltb dataMax (length (n .body)) short) (has-room c (r .at) (length (n .body)) (rw waits fits)))) refl
         (record {
           seen = refl;
           holds = record {
             legal = rw len (h .legal);
             read = rw len (h .read);
             room = rw (len, more) (omega arith);
-            write = rw (len, more) (ap (λ w. moved c w (size n)) (h .write) ∙ moved-moved c (r .at .read) (sizes q) (size n) (h .read) (omega arith));
+            write = rw (len, more) (ap (λ w. moved c w (size n)) (h .write) ∙ moved-moved c (r .at .read) (sizes q) (size n));
             stands = ap (λ k. take k (turned (r .at .read) (stored (r .at .write) bs (r .bytes)))) count ∙ stand ∙ sym (flat-more q n);
             fit = all-fit-more q n (h .fit) (record { id = id; short = short });
           };
@@ -178,11 +167,11 @@ module _ (r : Ring) (q : List Notice) (h : Holds r q) where
       where
         go : (x : Bool) → ltb dataMax (length (n .body)) ≡ x → (y : Bool) → ltb (c - 1 - sizes q) (size n) ≡ y → Keeps r answer (queuePost c q n)
         go true e y f =
-            same-steps (ap (λ a. postStep a r n) (post-long (r .bytes) (r .at) (n .id) (n .body) ok (ltb-true dataMax (length (n .body)) e))) (rw e)
+            same-steps (ap (λ a. postStep a r n) (post-long (r .bytes) (r .at) (n .id) (n .body) ok e)) (rw e)
             (record { seen = refl; holds = h; length-kept = refl })
         go false e true f =
             same-steps
-            (ap (λ a. postStep a r n) (post-full (r .bytes) (r .at) (n .id) (n .body) ok (ltb-false dataMax (length (n .body)) e) (rw waits (ltb-true (c - 1 - sizes q) (size n) f))))
+            (ap (λ a. postStep a r n) (post-full (r .bytes) (r .at) (n .id) (n .body) ok e (no-room c (r .at) (length (n .body)) (rw waits (ltb-true (c - 1 - sizes q) (size n) f)))))
             (rw (e, f))
             (record { seen = refl; holds = h; length-kept = refl })
         go false e false f = same-steps refl (rw (e, f)) (stored-keeps (ltb-false dataMax (length (n .body)) e) (ltb-false (c - 1 - sizes q) (size n) f))
@@ -251,7 +240,7 @@ module _ (r : Ring) (n : Notice) (q : List Notice) (h : Holds r (n ∷ q)) where
 
   apart-by : r .at .read ≡ r .at .write → ⊥
   apart-by e =
-      let equal = waits-between capacity (r .at) (omega arith) in
+      let equal = waits-between capacity (r .at) (between (r .at) (omega arith)) in
       let count = wait in
       omega arith
 
@@ -268,25 +257,22 @@ module _ (r : Ring) (n : Notice) (q : List Notice) (h : Holds r (n ∷ q)) where
     length-is : lengthAt (r .bytes) (r .at) ≡ length (n .body)
     length-is = length-read seen rest n (h .fit .0) starts
 
-    head-waits : headerSize ≤ waiting capacity (r .at)
-    head-waits = let count = wait in omega arith
+    sound : damaged (r .bytes) (r .at) ≡ false
+    sound =
+        let count = wait in
+        let small = le-ltb dataMax (length (n .body)) (h .fit .0 .short) in
+        undamaged (r .bytes) (r .at) (omega arith) (rw length-is small) (rw (length-is, wait) (omega arith))
 
-    short : lengthAt (r .bytes) (r .at) ≤ dataMax
-    short = rw length-is (h .fit .0 .short)
-
-    whole : lengthAt (r .bytes) (r .at) ≤ waiting capacity (r .at) - headerSize
-    whole = rw (length-is, wait) (omega arith)
-
-    left-waiting : length out < length (n .body) → Keeps r taken (record { seen = nothing OutputShort out; next = n ∷ q })
+    left-waiting : ltb (length out) (length (n .body)) ≡ true → Keeps r taken (record { seen = nothing OutputShort out; next = n ∷ q })
     left-waiting l =
-        same-steps (ap (λ a. takeStep a r out) (take-short (r .bytes) (r .at) out (ok r (n ∷ q) h) not-empty head-waits short whole (rw length-is l))) refl
+        same-steps (ap (λ a. takeStep a r out) (take-short (r .bytes) (r .at) out (ok r (n ∷ q) h) not-empty sound (rw length-is l))) refl
         (record { seen = refl; holds = h; length-kept = refl })
 
-    handed-out : length (n .body) ≤ length out
+    handed-out : ltb (length out) (length (n .body)) ≡ false
         → Keeps r taken (record { seen = given (n .id) (length (n .body)) (n .body ++ drop (length (n .body)) out); next = q })
     unfolding sizes
     handed-out l =
-        let answer = take-notice (r .bytes) (r .at) out (ok r (n ∷ q) h) not-empty head-waits short whole (rw length-is l) in
+        let answer = take-notice (r .bytes) (r .at) out (ok r (n ∷ q) h) not-empty sound (rw length-is l) in
         let as-posted = got-same (r .at .write) id-is length-is (ap (λ k. moved capacity (r .at .read) (headerSize + k)) length-is) in
         let room = fits in
         let on = turned-moved (r .at .read) (size n) (r .bytes) (let b = h .read in omega arith) (omega arith) in
@@ -295,9 +281,9 @@ module _ (r : Ring) (n : Notice) (q : List Notice) (h : Holds r (n ∷ q)) where
           seen = ap (λ bs. given (n .id) (length (n .body)) (bs ++ drop (length (n .body)) out)) (body-read seen rest n (h .fit .0) starts);
           holds = record {
             legal = h .legal;
-            read = moved-below capacity (r .at .read) (size n) (h .read) (omega arith);
+            read = moved-below capacity (r .at .read) (size n) (h .read);
             room = omega arith;
-            write = h .write ∙ sym (moved-moved capacity (r .at .read) (size n) (sizes q) (h .read) fits);
+            write = h .write ∙ sym (moved-moved capacity (r .at .read) (size n) (sizes q));
             stands =
                 ap (take (sizes q)) (on ∙ ap (λ l. l ++ take (size n) seen) (behind seen rest n (h .fit .0) starts) ∙ append-assoc (flat q) (drop (sizes (n ∷ q)) seen) (take (size n) seen))
                 ∙ take-at (flat q) (drop (sizes (n ∷ q)) seen ++ take (size n) seen) (sizes q) (length-flat q);
@@ -314,5 +300,5 @@ take-keeps r [] h out =
 take-keeps r (n ∷ q) h out = go (ltb (length out) (length (n .body))) refl
   where
     go : (x : Bool) → ltb (length out) (length (n .body)) ≡ x → Keeps r (takeStep (takenOf (r .bytes) (r .at) out) r out) (queueTake (n ∷ q) out)
-    go true e = same-steps refl (rw e) (left-waiting r n q h out (ltb-true (length out) (length (n .body)) e))
-    go false e = same-steps refl (rw e) (handed-out r n q h out (ltb-false (length out) (length (n .body)) e))
+    go true e = same-steps refl (rw e) (left-waiting r n q h out e)
+    go false e = same-steps refl (rw e) (handed-out r n q h out e)

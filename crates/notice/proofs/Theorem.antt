@@ -12,7 +12,7 @@ use lib.Seq.{take-at}
 use Rattle.notice.specs.Ring.{dataMax, waiting, turned}
 use Rattle.notice.specs.Queue.{Notice, Operation, post, take, Words, run, end, Ring, ringStep, size, sizes, queueStep, flat, wentIn, cameOut, allIn, allOut}
 use Rattle.notice.specs.Statements.{Capacity, empty, RingIsQueue, PostedIsTaken, AllTaken}
-use Rattle.notice.proofs.Answers.{waits-between}
+use Rattle.notice.proofs.Answers.{between, waits-between}
 use Rattle.notice.proofs.Queue.{length-flat, moved-none, Holds, Keeps, waits, post-keeps, take-keeps}
 
 first-word : (op : Operation) (ops : List Operation) → Words (op ∷ ops) → Words (op ∷ [])
@@ -119,7 +119,7 @@ all-taken ring p ops legal below w equal =
     let left = end (queueStep (length ring)) [] ops in
     let final = end ringStep (empty p ring) ops in
     let known = posted-is-taken ring p ops legal below w in
-    let none = sym (length-flat left) ∙ sym (known .waits) ∙ waits-between (length ring) (final .at) (omega arith) ∙ (let e : final .at .write - final .at .read ≡ 0 = omega arith in e) in
+    let none = sym (length-flat left) ∙ sym (known .waits) ∙ waits-between (length ring) (final .at) (between (final .at) (omega arith)) ∙ (let e : final .at .write - final .at .read ≡ 0 = omega arith in e) in
     known .in-order
     ∙ ap (λ l. allOut (run ringStep (empty p ring) ops) ++ l) (none-left left none)
     ∙ append-nil (allOut (run ringStep (empty p ring) ops))

@@ -7,10 +7,11 @@
 --     put-parts        a copy to the end and one to the start store round
 --     get-end, get-parts     a copy from the end, and one from the start too, read round
 -- Assumes nothing.
-use Prim.Native.Nat.{ℕ, _+_, _-_, _≤_, _<_}
+use Prim.Native.Nat.{ℕ, _+_, _-_, _%_, _≤_, _<_}
 use mathlib.Core.Bool.{Bool, true, false}
 use mathlib.Core.Path.{_≡_, refl, sym, ap, _∙_}
 use mathlib.Core.List.{List, _++_, append-assoc, append-nil}
+use native.Mathlib.Nat.{mod-lt, mod-self, mod-eq-of-lt, mod-eq-sub-mod}
 use native.Mathlib.Omega.{arith}
 use borrow.Author.Tests.{ltb-true, ltb-false, leb-true, leb-false}
 use lib.Dec.{ltb, leb}
@@ -40,19 +41,34 @@ pub turned-back : (at : ℕ) (xs : List ℕ) → at ≤ length xs → turned (le
 turned-back at xs h =
     turned-turned at (length xs - at) xs (omega arith) ∙ ap (λ n. turned n xs) (let e : at + (length xs - at) ≡ length xs = omega arith in e) ∙ turned-whole xs
 
+-- a full turn shows the ring as it is
+turned-mod : (k : ℕ) (xs : List ℕ) → k ≤ length xs → turned (k % length xs) xs ≡ turned k xs
+turned-mod k xs h = go (ltb k (length xs)) refl
+  where
+    go : (b : Bool) → ltb k (length xs) ≡ b → turned (k % length xs) xs ≡ turned k xs
+    go true e = ap (λ m. turned m xs) (mod-eq-of-lt (ltb-true k (length xs) e))
+    go false e =
+        let past = ltb-false k (length xs) e in
+        let all : k ≡ length xs = omega arith in
+        ap (λ m. turned m xs) (ap (λ m. m % length xs) all ∙ mod-self (length xs)) ∙ append-nil xs ∙ sym (turned-whole xs) ∙ ap (λ m. turned m xs) (sym all)
+
 pub turned-moved : (at n : ℕ) (xs : List ℕ) → at ≤ length xs → n ≤ length xs → turned (moved (length xs) at n) xs ≡ turned n (turned at xs)
 unfolding moved
-turned-moved at n xs h l = go (ltb (at + n) (length xs)) refl
+turned-moved at n xs h l = go (leb (at + n) (length xs)) refl
   where
-    go : (b : Bool) → ltb (at + n) (length xs) ≡ b → turned (moved (length xs) at n) xs ≡ turned n (turned at xs)
-    go true e = let inside = ltb-true (at + n) (length xs) e in rw e (sym (turned-turned at n xs (omega arith)))
+    go : (b : Bool) → leb (at + n) (length xs) ≡ b → turned (moved (length xs) at n) xs ≡ turned n (turned at xs)
+    go true e = let inside = leb-true (at + n) (length xs) e in turned-mod (at + n) xs inside ∙ sym (turned-turned at n xs inside)
     go false e =
-        let past = ltb-false (at + n) (length xs) e in
+        let past = leb-false (at + n) (length xs) e in
         let k = at + n - length xs in
         let room = length xs - at in
         let n-is : room + k ≡ n = omega arith in
         let whole = turned-turned room k (turned at xs) (rw (length-turned at xs) (omega arith)) in
-        rw e (ap (turned k) (sym (turned-back at xs h)) ∙ whole ∙ ap (λ m. turned m (turned at xs)) n-is)
+        ap (λ m. turned m xs) (mod-eq-sub-mod {n = at + n} {m = length xs} (omega arith))
+        ∙ turned-mod k xs (omega arith)
+        ∙ ap (turned k) (sym (turned-back at xs h))
+        ∙ whole
+        ∙ ap (λ m. turned m (turned at xs)) n-is
 
 -- what stands from a place on after bytes were stored there
 abbrev covered : List ℕ → ℕ → List ℕ → List ℕ
@@ -76,13 +92,9 @@ turned-same : (at : ℕ) (xs ys : List ℕ) → at ≤ length xs → length xs �
 turned-same at xs ys h len e =
     sym (turned-back at xs h) ∙ ap (λ n. turned (n - at) (turned at xs)) len ∙ ap (turned (length ys - at)) e ∙ turned-back at ys (omega arith)
 
-pub moved-below : (c at n : ℕ) → at < c → n ≤ c → moved c at n < c
+pub moved-below : (c at n : ℕ) → at < c → moved c at n < c
 unfolding moved
-moved-below c at n h l = go (ltb (at + n) c) refl
-  where
-    go : (b : Bool) → ltb (at + n) c ≡ b → moved c at n < c
-    go true e = rw e (ltb-true (at + n) c e)
-    go false e = rw e (omega arith)
+moved-below c at n h = mod-lt (at + n) (omega arith)
 
 -- past bytes that stand at the start, what is behind them comes first
 past : (first rest : List ℕ) → turned (length first) (first ++ rest) ≡ rest ++ first
@@ -109,7 +121,7 @@ stored-join first second at ring h l =
     let len-x = length-stored first at ring (omega arith) in
     let both = length-append first second in
     let len-y = length-stored (first ++ second) at ring (omega arith) in
-    let below = moved-below (length ring) at (length first) h (omega arith) in
+    let below = moved-below (length ring) at (length first) h in
     let len-left = length-stored second behind x (omega arith) in
     let rest : drop (length (first ++ second)) r ≡ drop (length second) (drop (length first) r) =
     ap (λ n. drop n r) both ∙ sym (drop-drop (length second) (length first) r) in

@@ -38,9 +38,13 @@ badRing c at =
     || (not (eqb (c % 8) 0)
     || (leb c (at .read) || leb c (at .write))))
 
+-- what waits ends before the ring does; else it runs past the last byte to the first
+abbrev pub isBetween : Positions → Bool
+isBetween at = leb (at .read) (at .write)
+
 -- how many bytes wait: "Equal positions mean empty, so at most C − 1 bytes wait."
 unfoldable pub waiting : ℕ → Positions → ℕ
-waiting c at = cond (leb (at .read) (at .write)) (at .write - at .read) (c - at .read + at .write)
+waiting c at = cond (isBetween at) (at .write - at .read) (c - at .read + at .write)
 
 abbrev pub isEmpty : Positions → Bool
 isEmpty at = eqb (at .read) (at .write)
@@ -49,9 +53,17 @@ isEmpty at = eqb (at .read) (at .write)
 abbrev pub free : ℕ → Positions → ℕ
 free c at = c - 1 - waiting c at
 
+-- 24: "data over 1,024"
+abbrev pub isLong : ℕ → Bool
+isLong n = ltb dataMax n
+
+-- 25: "exactly if 8 plus length exceeds C − 1 − waiting"
+abbrev pub isFull : ℕ → Positions → ℕ → Bool
+isFull c at n = ltb (free c at) (headerSize + n)
+
 -- a position moved on by n, past the last byte to the first
 unfoldable pub moved : ℕ → ℕ → ℕ → ℕ
-moved c at n = cond (ltb (at + n) c) (at + n) (at + n - c)
+moved c at n = (at + n) % c
 
 -- the ring as it is seen from a place: from there to the last byte, then from the first on
 abbrev pub turned : ℕ → List ℕ → List ℕ
@@ -69,8 +81,8 @@ noticeOf id body = bytes 4 id ++ (bytes 4 (length body) ++ body)
 unfoldable pub posted : List ℕ → Positions → ℕ → List ℕ → Posted
 posted ring at id body =
     cond (badRing (length ring) at) (NotPosted BadRing)
-    (cond (ltb dataMax (length body)) (NotPosted DataLong)
-    (cond (ltb (free (length ring) at) (headerSize + length body)) (NotPosted Full)
+    (cond (isLong (length body)) (NotPosted DataLong)
+    (cond (isFull (length ring) at (length body)) (NotPosted Full)
     (Stored (record { read = at .read; write = moved (length ring) (at .write) (headerSize + length body) }))))
 
 -- what the ring holds after that answer
@@ -89,8 +101,12 @@ lengthAt ring at = word 4 (drop 4 (turned (at .read) ring))
 abbrev pub damaged : List ℕ → Positions → Bool
 damaged ring at =
     ltb (waiting (length ring) at) headerSize
-    || (ltb dataMax (lengthAt ring at)
+    || (isLong (lengthAt ring at)
     || ltb (waiting (length ring) at - headerSize) (lengthAt ring at))
+
+-- 23: "output shorter than the data"
+abbrev pub isShort : List ℕ → Positions → List ℕ → Bool
+isShort ring at out = ltb (length out) (lengthAt ring at)
 
 -- what a take answers
 unfoldable pub takenOf : List ℕ → Positions → List ℕ → Taken
@@ -98,7 +114,7 @@ takenOf ring at out =
     cond (badRing (length ring) at) (NotTaken BadRing)
     (cond (isEmpty at) (NotTaken Empty)
     (cond (damaged ring at) (NotTaken Damaged)
-    (cond (ltb (length out) (lengthAt ring at)) (NotTaken OutputShort)
+    (cond (isShort ring at out) (NotTaken OutputShort)
     (Notice (idAt ring at) (lengthAt ring at)
     (record { read = moved (length ring) (at .read) (headerSize + lengthAt ring at); write = at .write })))))
 

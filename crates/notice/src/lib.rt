@@ -6,7 +6,7 @@ ghost use mathlib.Core.List.{_++_};
 ghost use lib.ListN.{length, drop};
 ghost use lib.ListN as ListN;
 ghost use Rattle.le.specs.Word.{word, bytes};
-ghost use Rattle.notice.specs.Ring.{numberOf, headerSize, badRing, waiting, moved, turned, stored, posted, ringAfter, takenOf, outputAfter};
+ghost use Rattle.notice.specs.Ring.{numberOf, headerSize, badRing, waiting, isFull, moved, turned, stored, posted, ringAfter, takenOf, outputAfter};
 
 // Where the oldest notice starts, and where the next one will: offsets in the ring. Equal means empty.
 pub struct Positions {
@@ -97,6 +97,18 @@ fn count_waiting(c: usize, at: Positions) -> usize
     c - at.read + at.write
 }
 
+// Whether a notice with n bytes of data does not fit what is free.
+fn lacks_room(c: usize, at: Positions, n: usize) -> bool
+    requires { ⌜ (at .read < c) × (at .write < c) × (c ≤ 65536) ⌝ }
+    ensures { λ r. ⌜ r ≡ isFull c at n ⌝ }
+{
+    let free = c - 1 - count_waiting(c, at);
+    if free < HEADER_SIZE {
+        return true;
+    }
+    free - HEADER_SIZE < n
+}
+
 // A position moved on by n, past the last byte to the first.
 fn move_on(c: usize, at: usize, n: usize) -> usize
     requires { ⌜ (at < c) × (n ≤ c) × (c ≤ 65536) ⌝ }
@@ -147,11 +159,12 @@ pub fn post(ring: &mut [u8], at: Positions, id: u32, body: &[u8]) -> Posted
     if is_bad(c, at) {
         return Posted::Refused(Reason::BadRing);
     }
-    if DATA_MAX < body.len() {
+    let long = DATA_MAX < body.len();
+    let full = lacks_room(c, at, body.len());
+    if long {
         return Posted::Refused(Reason::DataLong);
     }
-    let size = HEADER_SIZE + body.len();
-    if c - 1 - count_waiting(c, at) < size {
+    if full {
         return Posted::Refused(Reason::Full);
     }
     let head = header(id, body.len() as u32);
@@ -159,7 +172,7 @@ pub fn post(ring: &mut [u8], at: Positions, id: u32, body: &[u8]) -> Posted
     put_round(body, move_on(c, at.write, HEADER_SIZE), ring);
     Posted::Stored(Positions {
         read: at.read,
-        write: move_on(c, at.write, size),
+        write: move_on(c, at.write, HEADER_SIZE + body.len()),
     })
 }
 

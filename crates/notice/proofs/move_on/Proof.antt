@@ -13,7 +13,7 @@ returns : tie.Need-returns
 returns c = let args = c .before .args in sym (moved-inside (args .c) (args .at) (args .n) (search needs))
 
 returns-2 : tie.Need-returns-2
-returns-2 c = let args = c .before .args in sym (moved-past (args .c) (args .at) (args .n) (search needs))
+returns-2 c = let args = c .before .args in sym (moved-past (args .c) (args .at) (args .n) (search needs) (search needs) (search needs))
 
 pub move-on-spec : {M : Type 1} → statement M
 move-on-spec = tie.close (tie.spec add-next returns returns-2)

@@ -9,10 +9,10 @@ use native.Mathlib.Omega.{arith}
 use lib.ListN.{length, length-append}
 use Rattle.le.specs.Word.{bytes}
 use Rattle.le.proofs.Words.{length-bytes}
-use Rattle.notice.specs.Ring.{headerSize, badRing, free, moved, stored, noticeOf}
+use Rattle.notice.specs.Ring.{headerSize, badRing, isFull, moved, stored, noticeOf}
 use Rattle.notice.specs.declared.Posted.the-variants.{Stored}
 use Rattle.notice.proofs.Turning.{moved-below, length-stored, stored-join}
-use Rattle.notice.proofs.Answers.{Good, good, waits-less, post-bad, post-long, post-full, post-stored}
+use Rattle.notice.proofs.Answers.{Good, good, room-left, post-bad, post-long, post-full, post-stored}
 use borrow.Author.Needs.{needs}
 use Rattle.notice.proofs.post.Statement.{statement}
 use Rattle.notice.proofs.post.Tie as tie
@@ -27,18 +27,16 @@ ok c = sym (c .before .is-bad .ensures) ∙ c .if1 .left
 legal : (c : tie.Else1) → Good (length (start c .args .ring .now)) (start c .args .at)
 legal c = good _ _ (ok c)
 
--- the bytes that wait, as counted
-waits : (c : tie.After-count-waiting) → c .count-waiting .result < length (start (c .before .before) .args .ring .now)
-waits c = let known = legal (c .before .before) in rw (c .count-waiting .ensures) (waits-less _ _ (known .read) (known .write))
-
 -- where the notice fits
-fits : (c : tie.Else3)
-    → headerSize + length (start (c .before .before .before) .args .body .now)
-    ≤ free (length (start (c .before .before .before) .args .ring .now)) (start (c .before .before .before) .args .at)
-fits c = rw (← c .before .count-waiting .ensures) (c .if3 .left)
+not-full : (c : tie.Else3)
+    → isFull (length (start (c .before .before .before) .args .ring .now)) (start (c .before .before .before) .args .at) (length (start (c .before .before .before) .args .body .now))
+    ≡ false
+not-full c = sym (c .before .before .lacks-room .ensures) ∙ c .if3 .left
 
 whole : (c : tie.Else3) → headerSize + length (start (c .before .before .before) .args .body .now) ≤ length (start (c .before .before .before) .args .ring .now)
-whole c = omega (arith, fits c)
+whole c =
+    let args = start (c .before .before .before) .args in
+    omega (arith, room-left (length (args .ring .now)) (args .at) (length (args .body .now)) (not-full c))
 
 at-most : (n a b : ℕ) → a ≡ b → n ≤ b → n ≤ a
 at-most n a b e h = omega arith
@@ -84,31 +82,20 @@ returns c =
     let bad = sym (c .before .is-bad .ensures) ∙ c .if1 .taken in
     (sym (post-bad (args .ring .now) (args .at) (args .id) (args .body .now) bad), refl)
 
+lacks-room-requires : tie.Need-lacks-room-requires
+lacks-room-requires c κs =
+    let known = legal c in (known .read, known .write, known .most)
+
 returns-2 : tie.Need-returns-2
 returns-2 c =
-    let args = start (c .before) .args in
-    (sym (post-long (args .ring .now) (args .at) (args .id) (args .body .now) (ok (c .before)) (c .if2 .taken)), refl)
-
-add-size : tie.Need-add-size
-add-size c = search needs
-
-sub-if3 : tie.Need-sub-if3
-sub-if3 c =
-    omega (arith, legal (c .before) .least)
-
-count-waiting-requires : tie.Need-count-waiting-requires
-count-waiting-requires c κs =
-    let known = legal (c .before) in (known .read, known .write, known .most)
-
-sub-if3-2 : tie.Need-sub-if3-2
-sub-if3-2 c =
-    omega (arith, waits (c))
+    let args = start (c .before .before) .args in
+    (sym (post-long (args .ring .now) (args .at) (args .id) (args .body .now) (ok (c .before .before)) (c .if2 .taken)), refl)
 
 returns-3 : tie.Need-returns-3
 returns-3 c =
     let args = start (c .before .before .before) .args in
-    let over : free (length (args .ring .now)) (args .at) < headerSize + length (args .body .now) = rw (← c .before .count-waiting .ensures) (c .if3 .taken) in
-    (sym (post-full (args .ring .now) (args .at) (args .id) (args .body .now) (ok (c .before .before .before)) (c .before .before .if2 .left) over), refl)
+    let full = sym (c .before .before .lacks-room .ensures) ∙ c .if3 .taken in
+    (sym (post-full (args .ring .now) (args .at) (args .id) (args .body .now) (ok (c .before .before .before)) (c .before .if2 .left) full), refl)
 
 cast-header : tie.Need-cast-header
 cast-header c = search needs
@@ -135,9 +122,13 @@ put-round-requires-2 c κs =
     let known = legal (at-fit .before .before .before) in
     let args = start (at-fit .before .before .before) .args in
     let len = first-length (c .before .before .before .before) in
-    let inside : c .before .move-on .result < length (args .ring .now) = rw (c .before .move-on .ensures) (moved-below _ _ 8 (known .write) (omega (arith, known .least))) in
-    let enough : length (args .body .now) ≤ length (args .ring .now) = omega (arith, fits at-fit) in
+    let inside : c .before .move-on .result < length (args .ring .now) = rw (c .before .move-on .ensures) (moved-below _ _ 8 (known .write)) in
+    let enough : length (args .body .now) ≤ length (args .ring .now) = omega (arith, whole at-fit) in
     (at-most _ _ _ len (le-of-lt inside), at-most _ _ _ len enough)
+
+add-move-on : tie.Need-add-move-on
+add-move-on c =
+    omega (arith, whole (c .before .before .before .before .before .before .before .before .before .before .before))
 
 move-on-requires-2 : tie.Need-move-on-requires-2
 move-on-requires-2 c κs =
@@ -153,7 +144,7 @@ returns-4 c =
     let at-fit = c .before .before .before .before .before .before .before .before .before .before .before .before in
     let args = start (at-fit .before .before .before) .args in
     let known = legal (at-fit .before .before .before) in
-    let answer = post-stored (args .ring .now) (args .at) (args .id) (args .body .now) (ok (at-fit .before .before .before)) (at-fit .before .before .if2 .left) (fits at-fit) in
+    let answer = post-stored (args .ring .now) (args .at) (args .id) (args .body .now) (ok (at-fit .before .before .before)) (at-fit .before .if2 .left) (not-full at-fit) in
     let next = ap (λ (w : ℕ). Stored (record { read = args .at .read; write = w })) (c .move-on2 .ensures) in
     let put = c .before .before .before .put-round2 .ensures in (
       next ∙ sym answer,
@@ -170,11 +161,8 @@ post-spec =
     (tie.spec
     is-bad-requires
     returns
+    lacks-room-requires
     returns-2
-    add-size
-    sub-if3
-    count-waiting-requires
-    sub-if3-2
     returns-3
     cast-header
     header-requires
@@ -182,6 +170,7 @@ post-spec =
     put-round-requires
     move-on-requires
     put-round-requires-2
+    add-move-on
     move-on-requires-2
     same-length
     returns-4)

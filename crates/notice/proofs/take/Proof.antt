@@ -6,14 +6,14 @@ use mathlib.Core.Path.{_≡_, refl, sym, ap, _∙_}
 use mathlib.Core.List.{List, _++_}
 use native.Mathlib.Nat.{le-of-lt}
 use native.Mathlib.Omega.{arith}
-use borrow.Author.Tests.{eq-eqb, ne-eqb}
+use borrow.Author.Tests.{lt-ltb, le-ltb, eq-eqb, ne-eqb}
 use lib.ListN.{length, drop, length-take, length-drop}
 use lib.ListN as ListN
 use lib.Seq.{take-append-le}
-use Rattle.notice.specs.Ring.{dataMax, headerSize, badRing, waiting, isEmpty, moved, turned, lengthAt}
+use Rattle.notice.specs.Ring.{dataMax, headerSize, badRing, waiting, isEmpty, isLong, moved, turned, lengthAt, damaged}
 use Rattle.notice.specs.declared.Taken.the-variants.{Notice}
 use Rattle.notice.proofs.Turning.{moved-below, length-turned, turned-moved}
-use Rattle.notice.proofs.Answers.{Good, good, waits-less, take-bad, take-empty, take-few, take-over, take-beyond, take-short, take-notice}
+use Rattle.notice.proofs.Answers.{Good, good, waits-less, few-wait, over-long, past-waiting, undamaged, take-bad, take-empty, take-damaged, take-short, take-notice}
 use borrow.Author.Needs.{needs}
 use Rattle.notice.proofs.take.Statement.{statement}
 use Rattle.notice.proofs.take.Tie as tie
@@ -39,13 +39,17 @@ head-waits : (c : tie.After-read-head) → headerSize ≤ waiting (length (start
 head-waits c = rw (← c .before .before .count-waiting .ensures) (c .before .if3 .left)
 
 -- the Data Length is legal, and so much waits
-small : (c : tie.Else4) → lengthAt (start (at-legal (c .before)) .args .ring .now) (start (at-legal (c .before)) .args .at) ≤ dataMax
-small c = rw (← c .before .read-head .ensures .1) (c .if4 .left)
+small : (c : tie.Else4) → isLong (lengthAt (start (at-legal (c .before)) .args .ring .now) (start (at-legal (c .before)) .args .at)) ≡ false
+small c = rw (← c .before .read-head .ensures .1) (le-ltb _ _ (c .if4 .left))
 
 whole : (c : tie.Else5)
     → lengthAt (start (at-legal (c .before .before)) .args .ring .now) (start (at-legal (c .before .before)) .args .at)
     ≤ waiting (length (start (at-legal (c .before .before)) .args .ring .now)) (start (at-legal (c .before .before)) .args .at) - headerSize
 whole c = rw (← c .before .before .before .before .count-waiting .ensures, ← c .before .before .read-head .ensures .1) (c .if5 .left)
+
+sound : (c : tie.Else5) → damaged (start (at-legal (c .before .before)) .args .ring .now) (start (at-legal (c .before .before)) .args .at) ≡ false
+sound c =
+    let args = start (at-legal (c .before .before)) .args in undamaged (args .ring .now) (args .at) (head-waits (c .before .before)) (small (c .before)) (whole c)
 
 room-of : {n m waits size : ℕ} → n ≡ m → m ≤ waits - headerSize → headerSize ≤ waits → waits < size → headerSize + n ≤ size
 room-of e h l w = omega arith
@@ -99,7 +103,7 @@ returns-3 : tie.Need-returns-3
 returns-3 c =
     let args = start (c .before .before .before .before) .args in
     let few : waiting (length (args .ring .now)) (args .at) < headerSize = rw (← c .before .count-waiting .ensures) (c .if3 .taken) in
-    (sym (take-few (args .ring .now) (args .at) (args .out .now) (ok (c .before .before .before .before)) (ne-eqb _ _ (c .before .before .if2 .left)) few), refl)
+    (sym (take-damaged (args .ring .now) (args .at) (args .out .now) (ok (c .before .before .before .before)) (ne-eqb _ _ (c .before .before .if2 .left)) (few-wait (args .ring .now) (args .at) few)), refl)
 
 read-head-requires : tie.Need-read-head-requires
 read-head-requires c κs =
@@ -109,21 +113,23 @@ returns-4 : tie.Need-returns-4
 returns-4 c =
     let args = start (at-legal (c .before)) .args in
     let over : dataMax < lengthAt (args .ring .now) (args .at) = rw (← c .before .read-head .ensures .1) (c .if4 .taken) in
-    (sym (take-over (args .ring .now) (args .at) (args .out .now) (ok (at-legal (c .before))) (some-wait (c .before)) (head-waits (c .before)) over), refl)
+    let long = over-long (args .ring .now) (args .at) (head-waits (c .before)) (lt-ltb _ _ over) in
+    (sym (take-damaged (args .ring .now) (args .at) (args .out .now) (ok (at-legal (c .before))) (some-wait (c .before)) long), refl)
 
 returns-5 : tie.Need-returns-5
 returns-5 c =
     let args = start (at-legal (c .before .before)) .args in
     let beyond : waiting (length (args .ring .now)) (args .at) - headerSize < lengthAt (args .ring .now) (args .at) =
     rw (← c .before .before .before .before .count-waiting .ensures, ← c .before .before .read-head .ensures .1) (c .if5 .taken) in
-    (sym (take-beyond (args .ring .now) (args .at) (args .out .now) (ok (at-legal (c .before .before))) (some-wait (c .before .before)) (head-waits (c .before .before)) (small (c .before)) beyond), refl)
+    let past = past-waiting (args .ring .now) (args .at) (head-waits (c .before .before)) (small (c .before)) beyond in
+    (sym (take-damaged (args .ring .now) (args .at) (args .out .now) (ok (at-legal (c .before .before))) (some-wait (c .before .before)) past), refl)
 
 returns-6 : tie.Need-returns-6
 returns-6 c =
     let head = c .before .before .before in
     let args = start (at-legal head) .args in
     let short : length (args .out .now) < lengthAt (args .ring .now) (args .at) = rw (← head .read-head .ensures .1) (c .if6 .taken) in
-    (sym (take-short (args .ring .now) (args .at) (args .out .now) (ok (at-legal head)) (some-wait head) (head-waits head) (small (c .before .before)) (whole (c .before)) short), refl)
+    (sym (take-short (args .ring .now) (args .at) (args .out .now) (ok (at-legal head)) (some-wait head) (sound (c .before)) (lt-ltb _ _ short)), refl)
 
 move-on-requires : tie.Need-move-on-requires
 move-on-requires c κs =
@@ -143,7 +149,7 @@ get-round-requires c κs =
     let head = at-fit .before .before .before in
     let known = legal (at-legal head) in
     let args = start (at-legal head) .args in
-    let inside : c .before .move-on .result < length (args .ring .now) = rw (c .before .move-on .ensures) (moved-below _ _ 8 (known .read) (omega (arith, known .least))) in
+    let inside : c .before .move-on .result < length (args .ring .now) = rw (c .before .move-on .ensures) (moved-below _ _ 8 (known .read)) in
     (le-of-lt inside, part-fits _ (args .out .now) (args .ring .now) (within at-fit))
 
 add-move-on : tie.Need-add-move-on
@@ -170,7 +176,7 @@ returns-7 c =
     let id-is = head .read-head .ensures .0 in
     let n-is = head .read-head .ensures .1 in
     let room : lengthAt ring (args .at) ≤ length out = rw (← n-is) (at-fit .if6 .left) in
-    let answer = take-notice ring (args .at) out (ok (at-legal head)) (some-wait head) (head-waits head) (small (at-fit .before .before)) (whole (at-fit .before)) room in
+    let answer = take-notice ring (args .at) out (ok (at-legal head)) (some-wait head) (sound (at-fit .before)) (le-ltb _ _ room) in
     let next = c .move-on2 .ensures ∙ ap (λ (k : ℕ). moved (length ring) (args .at .read) (headerSize + k)) n-is in
     let got = c .before .before .before .get-round .ensures in
     let part = part-length n out (at-fit .if6 .left) in (
