@@ -9,7 +9,7 @@ use native.Mathlib.Nat.{mod-eq-of-lt, mod-eq-sub-mod}
 use native.Mathlib.Omega.{arith}
 use lib.Dec.{ltb, leb, eqb}
 use lib.ListN.{length}
-use Rattle.le.proofs.Tests.{neither, agree}
+use Rattle.le.proofs.Tests.{apart, neither, agree}
 use Rattle.notice.specs.Ring.{headerSize, badRing, isBetween, waiting, isEmpty, free, isLong, isFull, moved, posted, idAt, lengthAt, damaged, isShort, takenOf}
 use Rattle.notice.specs.declared.Positions.{Positions}
 use Rattle.notice.specs.declared.Reason.the-variants.{BadRing, Empty, Damaged, OutputShort, DataLong, Full}
@@ -126,6 +126,22 @@ module _ (ring : List ℕ) (at : Positions) (id : ℕ) (body : List ℕ) where
     unfolding posted
     post-stored h f = rw (ok, h, f)
 
+-- what is known where a post is accepted
+pub record Accepted (ring : List ℕ) (at : Positions) (body : List ℕ) : Type 0 where
+  pub ok : badRing (length ring) at ≡ false
+  pub small : isLong (length body) ≡ false
+  pub fits : isFull (length ring) at (length body) ≡ false
+
+pub accepted : (ring : List ℕ) (at : Positions) (id : ℕ) (body : List ℕ) (next : Positions) → posted ring at id body ≡ Stored next → Accepted ring at body
+accepted ring at id body next e = go (badRing (length ring) at) refl (isLong (length body)) refl (isFull (length ring) at (length body)) refl
+  where
+    go : (x : Bool) → badRing (length ring) at ≡ x → (y : Bool) → isLong (length body) ≡ y → (z : Bool) → isFull (length ring) at (length body) ≡ z
+        → Accepted ring at body
+    go true p y q z r = let no = post-bad ring at id body p in apart (cc)
+    go false p true q z r = let no = post-long ring at id body p q in apart (cc)
+    go false p false q true r = let no = post-full ring at id body p q r in apart (cc)
+    go false p false q false r = record { ok = p; small = q; fits = r }
+
 -- which notices are damaged
 module _ (ring : List ℕ) (at : Positions) where
   pub few-wait : waiting (length ring) at < headerSize → damaged ring at ≡ true
@@ -141,6 +157,15 @@ module _ (ring : List ℕ) (at : Positions) where
 
       pub undamaged : lengthAt ring at ≤ waiting (length ring) at - headerSize → damaged ring at ≡ false
       undamaged h = rw (le-ltb (waiting (length ring) at) headerSize head, small, le-ltb (waiting (length ring) at - headerSize) (lengthAt ring at) h)
+
+pub within-waiting : (ring : List ℕ) (at : Positions) → damaged ring at ≡ false → headerSize + lengthAt ring at ≤ waiting (length ring) at
+within-waiting ring at e =
+    let c = length ring in
+    let p = neither (ltb (waiting c at) headerSize) _ e in
+    let q = neither (isLong (lengthAt ring at)) _ (p .1) in
+    let head = ltb-false (waiting c at) headerSize (p .0) in
+    let whole = ltb-false (waiting c at - headerSize) (lengthAt ring at) (q .1) in
+    omega arith
 
 module _ (ring : List ℕ) (at : Positions) (out : List ℕ) where
   pub take-bad : badRing (length ring) at ≡ true → takenOf ring at out ≡ NotTaken BadRing
@@ -168,3 +193,21 @@ module _ (ring : List ℕ) (at : Positions) (out : List ℕ) where
             (record { read = moved (length ring) (at .read) (headerSize + lengthAt ring at); write = at .write })
         unfolding takenOf
         take-notice h = rw (ok, some, sound, h)
+
+-- what is known where a take answers a notice
+pub record Answered (ring : List ℕ) (at : Positions) (out : List ℕ) : Type 0 where
+  pub ok : badRing (length ring) at ≡ false
+  pub some : isEmpty at ≡ false
+  pub sound : damaged ring at ≡ false
+  pub room : isShort ring at out ≡ false
+
+pub answered : (ring : List ℕ) (at : Positions) (out : List ℕ) (id n : ℕ) (next : Positions) → takenOf ring at out ≡ Notice id n next → Answered ring at out
+answered ring at out id n next e = go (badRing (length ring) at) refl (isEmpty at) refl (damaged ring at) refl (isShort ring at out) refl
+  where
+    go : (w : Bool) → badRing (length ring) at ≡ w → (x : Bool) → isEmpty at ≡ x → (y : Bool) → damaged ring at ≡ y → (z : Bool) → isShort ring at out ≡ z
+        → Answered ring at out
+    go true p x q y r z s = let no = take-bad ring at out p in apart (cc)
+    go false p true q y r z s = let no = take-empty ring at out p q in apart (cc)
+    go false p false q true r z s = let no = take-damaged ring at out p q r in apart (cc)
+    go false p false q false r true s = let no = take-short ring at out p q r s in apart (cc)
+    go false p false q false r false s = record { ok = p; some = q; sound = r; room = s }

@@ -107,7 +107,7 @@ stored-same ring at s h l =
     ap (λ k. turned (length ring - at) (take s seen ++ drop k seen)) len ∙ ap (turned (length ring - at)) (take-append-drop s seen) ∙ turned-back at ring h
 
 -- bytes stored behind what stands from a place on stand there too
-post-stands : (ring standing bs : List ℕ) (read write : ℕ) → read < length ring → length standing + length bs < length ring
+pub post-stands : (ring standing bs : List ℕ) (read write : ℕ) → read < length ring → length standing + length bs < length ring
     → write ≡ moved (length ring) read (length standing)
     → take (length standing) (turned read ring) ≡ standing
     → take (length standing + length bs) (turned read (stored write bs ring)) ≡ standing ++ bs

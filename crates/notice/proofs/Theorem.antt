@@ -1,19 +1,23 @@
--- The ring is a queue, and what is posted is taken: whole lists of operations, by the relation that each operation keeps.
+-- The ring is a queue, and what is posted is taken: whole lists of operations, by the relation that each operation keeps. What one post and one take change.
 -- Assumes nothing.
-use Prim.Native.Nat.{ℕ, _-_, _<_}
+use Prim.Native.Nat.{ℕ, _+_, _-_, _≤_, _<_}
 use mathlib.Core.Bool.{Bool, true, false}
 use mathlib.Core.Path.{_≡_, refl, sym, ap, ap₂, subst, _∙_}
 use mathlib.Core.List.{List, [], _∷_, _++_, append-assoc, append-nil}
+use borrow.Author.Tests.{ltb-false, leb-true, leb-false}
+use native.Mathlib.Nat.{le-of-lt}
 use native.Mathlib.Omega.{arith}
 use lib.Dec.{ltb}
-use lib.ListN.{length, drop}
+use lib.ListN.{length, drop, length-append, length-take, length-drop}
 use lib.ListN as ListN
-use lib.Seq.{take-at}
-use Rattle.notice.specs.Ring.{dataMax, waiting, turned}
+use lib.Seq.{take-at, drop-at, take-take}
+use Rattle.notice.specs.Ring.{dataMax, headerSize, isBetween, waiting, moved, turned, stored, noticeOf, lengthAt}
 use Rattle.notice.specs.Queue.{Notice, Operation, post, take, Words, run, end, Ring, ringStep, size, sizes, queueStep, flat, wentIn, cameOut, allIn, allOut}
-use Rattle.notice.specs.Statements.{Capacity, empty, RingIsQueue, PostedIsTaken, AllTaken}
-use Rattle.notice.proofs.Answers.{between, waits-between}
-use Rattle.notice.proofs.Queue.{length-flat, moved-none, Holds, Keeps, waits, post-keeps, take-keeps}
+use Rattle.notice.specs.Statements.{Capacity, empty, RingIsQueue, PostedIsTaken, AllTaken, PostChanges, TakeChanges}
+use Rattle.notice.specs.declared.Positions.{Positions}
+use Rattle.notice.proofs.Turning.{length-turned, length-stored, turned-stored}
+use Rattle.notice.proofs.Answers.{good, between, waits-between, waits-round, waits-less, moved-inside, moved-past, room-left, post-stored, accepted, within-waiting, take-notice, answered}
+use Rattle.notice.proofs.Queue.{length-notice, length-flat, moved-none, post-stands, Holds, Keeps, waits, post-keeps, take-keeps}
 
 first-word : (op : Operation) (ops : List Operation) → Words (op ∷ ops) → Words (op ∷ [])
 first-word (post n) ops w = (w .0, tt)
@@ -123,3 +127,64 @@ all-taken ring p ops legal below w equal =
     known .in-order
     ∙ ap (λ l. allOut (run ringStep (empty p ring) ops) ++ l) (none-left left none)
     ∙ append-nil (allOut (run ringStep (empty p ring) ops))
+
+-- so far past the read position as bytes wait is the write position
+moved-waiting : (c : ℕ) (at : Positions) → at .read < c → at .write < c → moved c (at .read) (waiting c at) ≡ at .write
+moved-waiting c at r w = go (isBetween at) refl
+  where
+    go : (b : Bool) → isBetween at ≡ b → moved c (at .read) (waiting c at) ≡ at .write
+    go true e =
+        let h = leb-true (at .read) (at .write) e in
+        ap (moved c (at .read)) (waits-between c at e) ∙ moved-inside c (at .read) (at .write - at .read) (omega arith) ∙ omega arith
+    go false e =
+        let h = leb-false (at .read) (at .write) e in
+        ap (moved c (at .read)) (waits-round c at e) ∙ moved-past c (at .read) (c - at .read + at .write) r (omega arith) (omega arith) ∙ omega arith
+
+pub post-changes : PostChanges
+post-changes ring at id body next e =
+    let c = length ring in
+    let known = accepted ring at id body next e in
+    let legal = good c at (known .ok) in
+    let bs = noticeOf id body in
+    let len = length-notice (record { id = id; body = body }) in
+    let room = room-left c at (length body) (known .fits) in
+    let answer = post-stored ring at id body (known .ok) (known .small) (known .fits) in
+    let seen = turned (at .read) ring in
+    let standing = ListN.take (waiting c at) seen in
+    let some = waits-less c at (legal .read) (legal .write) in
+    let whole : length bs ≤ c = omega arith in
+    let count : length standing ≡ waiting c at = length-take (waiting c at) seen ∙ rw (length-turned (at .read) ring) (omega arith) in
+    let stands = post-stands ring standing bs (at .read) (at .write) (legal .read) (omega arith) (sym (moved-waiting c at (legal .read) (legal .write)) ∙ ap (moved c (at .read)) (sym count)) (ap (λ k. ListN.take k seen) count) in
+    record {
+      same-length = rw e (length-stored bs (at .write) ring whole);
+      places = rw e (turned-stored bs (at .write) ring (le-of-lt (legal .write)) whole ∙ ap (λ k. bs ++ drop k (turned (at .write) ring)) len);
+      waited =
+          rw e
+          (ap (λ k. ListN.take k (turned (at .read) (stored (at .write) bs ring))) (sym count)
+          ∙ sym (take-take (length standing) (length standing + length bs) (turned (at .read) (stored (at .write) bs ring)) (omega arith))
+          ∙ ap (ListN.take (length standing)) stands
+          ∙ take-at standing bs (length standing) refl);
+      read-is = cc;
+      write-is = cc;
+    }
+
+pub take-changes : TakeChanges
+take-changes ring at out id n next e =
+    let c = length ring in
+    let known = answered ring at out id n next e in
+    let legal = good c at (known .ok) in
+    let answer = take-notice ring at out (known .ok) (known .some) (known .sound) (known .room) in
+    let n-is : n ≡ lengthAt ring at = cc in
+    let waits = within-waiting ring at (known .sound) in
+    let some = waits-less c at (legal .read) (legal .write) in
+    let inside = ltb-false (length out) (lengthAt ring at) (known .room) in
+    let body = ListN.take n (drop headerSize (turned (at .read) ring)) in
+    let count : length body ≡ n = simp (length-take, length-drop, length-append) (omega arith) in
+    record {
+      inside = omega arith;
+      same-length = rw e (simp (length-append, length-drop) (omega arith));
+      first = rw e (take-at body (drop n out) n count);
+      rest = rw e (drop-at body (drop n out) n count);
+      read-is = cc;
+      write-is = cc;
+    }

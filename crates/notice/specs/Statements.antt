@@ -1,10 +1,13 @@
--- What is proved of lists of operations. The proofs are in `proofs/Theorem.antt`, under the names given here.
+-- What is proved of one post and one take, and of lists of them. The proofs are in `proofs/Theorem.antt`, under the names given here.
 -- Assumes nothing.
-use Prim.Native.Nat.{ℕ, _%_, _≤_, _<_}
+use Prim.Native.Nat.{ℕ, _+_, _%_, _≤_, _<_}
 use mathlib.Core.Path.{_≡_}
 use mathlib.Core.List.{List, [], _++_}
-use lib.ListN.{length, take}
-use Rattle.notice.specs.Ring.{waiting, turned}
+use lib.ListN.{length, take, drop}
+use Rattle.notice.specs.Ring.{headerSize, waiting, moved, turned, noticeOf, posted, ringAfter, takenOf, outputAfter}
+use Rattle.notice.specs.declared.Positions.{Positions}
+use Rattle.notice.specs.declared.Posted.the-variants.{Stored}
+use Rattle.notice.specs.declared.Taken.the-variants.{Notice as Got}
 use Rattle.notice.specs.Queue.{Notice, Operation, Words, run, end, Ring, ringStep, queueStep, flat, allIn, allOut}
 
 -- "Equal positions mean empty"
@@ -51,3 +54,34 @@ AllTaken =
     → Words ops
     → end ringStep (empty p ring) ops .at .read ≡ end ringStep (empty p ring) ops .at .write
     → allIn ops (run ringStep (empty p ring) ops) ≡ allOut (run ringStep (empty p ring) ops)
+
+-- `post-changes`. An accepted post changes the notice's places and no other byte: the ring keeps its length, seen from the write position it starts with the
+-- notice and is else as before, and what waited stands as it did. The read position stays, and the write position moves on by the notice's size.
+pub record PostChanged (ring : List ℕ) (at : Positions) (id : ℕ) (body : List ℕ) (next : Positions) (after : List ℕ) : Type 0 where
+  pub same-length : length after ≡ length ring
+  pub places : turned (at .write) after ≡ noticeOf id body ++ drop (headerSize + length body) (turned (at .write) ring)
+  pub waited : take (waiting (length ring) at) (turned (at .read) after) ≡ take (waiting (length ring) at) (turned (at .read) ring)
+  pub read-is : next .read ≡ at .read
+  pub write-is : next .write ≡ moved (length ring) (at .write) (headerSize + length body)
+
+abbrev pub PostChanges : Type 0
+PostChanges =
+    (ring : List ℕ) (at : Positions) (id : ℕ) (body : List ℕ) (next : Positions)
+    → posted ring at id body ≡ Stored next
+    → PostChanged ring at id body next (ringAfter (posted ring at id body) ring at id body)
+
+-- `take-changes`. A take that answers a notice of n bytes changes the output's first n bytes, which are the data, and no other: the output keeps its length
+-- and its bytes from n on. The read position moves on by the notice's size, and the write position stays.
+pub record TakeChanged (ring : List ℕ) (at : Positions) (out : List ℕ) (n : ℕ) (next : Positions) (after : List ℕ) : Type 0 where
+  pub inside : n ≤ length out
+  pub same-length : length after ≡ length out
+  pub first : take n after ≡ take n (drop headerSize (turned (at .read) ring))
+  pub rest : drop n after ≡ drop n out
+  pub read-is : next .read ≡ moved (length ring) (at .read) (headerSize + n)
+  pub write-is : next .write ≡ at .write
+
+abbrev pub TakeChanges : Type 0
+TakeChanges =
+    (ring : List ℕ) (at : Positions) (out : List ℕ) (id n : ℕ) (next : Positions)
+    → takenOf ring at out ≡ Got id n next
+    → TakeChanged ring at out n next (outputAfter (takenOf ring at out) ring at out)
