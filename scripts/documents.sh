@@ -160,6 +160,7 @@ said=$(
     misplaced_names
     unpromised_functions
     unnamed_edits
+    over_budget
 )
 [ -z "$said" ] || {
     printf '%s\n' "$said"

@@ -21,7 +21,7 @@ use lib.ListN.{length, drop, getD}
 use lib.Seq.{getD-drop}
 use Rattle.le.specs.Word.{word, AreBytes}
 use Rattle.le.proofs.Words.{word-below}
-use Rattle.le.proofs.Tests.{both}
+use Rattle.le.proofs.Tests.{both, either}
 use Rattle.frame.specs.Framing.{All}
 use Rattle.frame.specs.Layout.{headerSize, frameMax, messageMax, typeVersion, headerOf}
 use Rattle.frame.specs.Reading.{parsed, dataOf}
@@ -69,11 +69,7 @@ state-crosses (Open p) wide = rw (within _ (wide .id), within _ (wide .sender), 
 pub positions-cross : PositionsCross
 positions-cross id n p before = (refl, refl)
 
--- what holds of either branch holds of the choice; `unless`: the second branch may count on the test
-either : {A : Type 0} (P : A → Type 0) (b : Bool) {x y : A} → P x → P y → P (cond b x y)
-either P true p q = p
-either P false p q = q
-
+-- as `either`, and the second branch may count on the test
 unless : {A : Type 0} (P : A → Type 0) (b : Bool) {x y : A} → P x → (b ≡ false → P y) → P (cond b x y)
 unless P true p q = p
 unless P false p q = q refl

@@ -1,7 +1,7 @@
 -- The ring is a queue, and what is posted is taken: whole lists of operations, by the relation that each operation keeps. What one post and one take change.
 -- Assumes nothing.
 use Prim.Native.Nat.{ℕ, _+_, _-_, _≤_, _<_}
-use mathlib.Core.Bool.{Bool, true, false}
+use mathlib.Core.Bool.{Bool, true, false, cond}
 use mathlib.Core.Path.{_≡_, refl, sym, ap, ap₂, subst, _∙_}
 use mathlib.Core.List.{List, [], _∷_, _++_, append-assoc, append-nil}
 use borrow.Author.Tests.{ltb-false, leb-true, leb-false}
@@ -11,12 +11,15 @@ use lib.Dec.{ltb}
 use lib.ListN.{length, drop, length-append, length-take, length-drop}
 use lib.ListN as ListN
 use lib.Seq.{take-at, drop-at, take-take}
-use Rattle.notice.specs.Ring.{dataMax, headerSize, isBetween, waiting, moved, turned, stored, noticeOf, lengthAt}
+use Rattle.le.proofs.Tests.{apart, past}
+use Rattle.notice.specs.Ring.{dataMax, headerSize, badRing, isBetween, waiting, isEmpty, moved, turned, stored, noticeOf, idAt, lengthAt, damaged, isShort, takenOf}
 use Rattle.notice.specs.Queue.{Notice, Operation, post, take, Words, run, end, Ring, ringStep, size, sizes, queueStep, flat, wentIn, cameOut, allIn, allOut}
-use Rattle.notice.specs.Statements.{Capacity, empty, RingIsQueue, PostedIsTaken, AllTaken, PostChanges, TakeChanges}
+use Rattle.notice.specs.Statements.{Capacity, empty, RingIsQueue, PostedIsTaken, AllTaken, PostChanges, TakeChanges, DamagedStays}
 use Rattle.notice.specs.declared.Positions.{Positions}
+use Rattle.notice.specs.declared.Reason.the-variants.{Damaged, OutputShort}
+use Rattle.notice.specs.declared.Taken.the-variants.{Notice as Got, Refused as NotTaken}
 use Rattle.notice.proofs.Turning.{length-turned, length-stored, turned-stored}
-use Rattle.notice.proofs.Answers.{good, between, waits-between, waits-round, waits-less, moved-inside, moved-past, room-left, post-stored, accepted, within-waiting, take-notice, answered}
+use Rattle.notice.proofs.Answers.{good, between, waits-between, waits-round, waits-less, moved-inside, moved-past, room-left, post-stored, accepted, within-waiting, take-damaged, take-notice, answered}
 use Rattle.notice.proofs.Queue.{length-notice, length-flat, moved-none, post-stands, Holds, Keeps, waits, post-keeps, take-keeps}
 
 first-word : (op : Operation) (ops : List Operation) → Words (op ∷ ops) → Words (op ∷ [])
@@ -188,3 +191,19 @@ take-changes ring at out id n next e =
       read-is = cc;
       write-is = cc;
     }
+
+pub damaged-stays : DamagedStays
+unfolding takenOf
+damaged-stays ring at out other e =
+    let legal = past (badRing (length ring) at) (λ q. apart (cc)) e in
+    let some = past (isEmpty at) (λ q. apart (cc)) (legal .1) in
+    take-damaged ring at other (legal .0) (some .0) (go (damaged ring at) (some .1))
+  where
+    go : (d : Bool)
+        → cond d (NotTaken Damaged)
+        (cond (isShort ring at out) (NotTaken OutputShort)
+        (Got (idAt ring at) (lengthAt ring at) (record { read = moved (length ring) (at .read) (headerSize + lengthAt ring at); write = at .write })))
+        ≡ NotTaken Damaged
+        → d ≡ true
+    go true q = refl
+    go false q = let answers = past (isShort ring at out) (λ z. apart (cc)) q .1 in apart (cc)

@@ -7,7 +7,8 @@ use lib.ListN.{length, take, drop}
 use Rattle.notice.specs.Ring.{headerSize, waiting, moved, turned, noticeOf, posted, ringAfter, takenOf, outputAfter}
 use Rattle.notice.specs.declared.Positions.{Positions}
 use Rattle.notice.specs.declared.Posted.the-variants.{Stored}
-use Rattle.notice.specs.declared.Taken.the-variants.{Notice as Got}
+use Rattle.notice.specs.declared.Taken.the-variants.{Notice as Got, Refused as NotTaken}
+use Rattle.notice.specs.declared.Reason.the-variants.{Damaged}
 use Rattle.notice.specs.Queue.{Notice, Operation, Words, run, end, Ring, ringStep, queueStep, flat, allIn, allOut}
 
 -- "Equal positions mean empty"
@@ -85,3 +86,10 @@ TakeChanges =
     (ring : List ℕ) (at : Positions) (out : List ℕ) (id n : ℕ) (next : Positions)
     → takenOf ring at out ≡ Got id n next
     → TakeChanged ring at out n next (outputAfter (takenOf ring at out) ring at out)
+
+-- `damaged-stays`. A 22 changes nothing, so every take from that ring gets 22, whatever its output.
+abbrev pub DamagedStays : Type 0
+DamagedStays =
+    (ring : List ℕ) (at : Positions) (out other : List ℕ)
+    → takenOf ring at out ≡ NotTaken Damaged
+    → takenOf ring at other ≡ NotTaken Damaged
