@@ -34,6 +34,11 @@ fn word(x: u64) {
     byte(w[0]);
 }
 
+fn low_byte(x: u64) {
+    let w = le::word::u64_bytes(x);
+    byte(w[0]);
+}
+
 // Prints a byte of a pattern, and answers how many values it takes.
 fn symbol(c: u8, x: u64) -> usize {
     if c == b'%' {
@@ -44,6 +49,10 @@ fn symbol(c: u8, x: u64) -> usize {
         word(x);
         return 1;
     }
+    if c == b'$' {
+        low_byte(x);
+        return 1;
+    }
     text(&[c]);
     0
 }
@@ -52,7 +61,7 @@ fn value(values: &[u64], i: usize) -> u64 {
     if i < values.len() { values[i] } else { 0 }
 }
 
-// A text in which each % is the next value in decimal, and each # the next one as a word.
+// A text in which each % is the next value in decimal, each # the next one as a word, and each $ as a byte.
 pub fn pattern(s: &[u8], values: &[u64]) {
     let mut used = 0;
     let mut i = 0;

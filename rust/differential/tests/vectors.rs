@@ -4,7 +4,7 @@
 use differential::random::Random;
 use differential::report;
 use differential::sfi_memory::lay_syst;
-use differential::sfi_tables;
+use differential::sfi_tables::{self, Kind, CPUS, MMAP, WAKE};
 use differential::tables::{self, put, put_word, word};
 use differential::tables::{CHECKSUM, COUNT, ROOT_NAME, TOTAL, VERSION};
 use reference::frame::{self, Envelope, Refusal};
@@ -350,7 +350,11 @@ fn ubios_tables() -> Vec<String> {
             checksum_of_root(),
             root("that root", &shortest_root(), BASE),
             root("root", &gap, BASE),
-            table("table in slot 1", &gap, SOUND_SPEED),
+            table(
+                "table in slot 1, a byte behind its used part is 1",
+                &gap,
+                SOUND_SPEED,
+            ),
             find("sound_speed", &gap, b"sound_speed"),
             find("depth", &gap, b"depth"),
             find("bottom", &gap, b"bottom"),
@@ -414,12 +418,14 @@ fn shortest_root() -> Vec<u8> {
     root
 }
 
-/// A root with these slots, `sound_speed`, and `depth`. What no check reads is any.
+/// A root with these slots, `sound_speed`, with a byte that is 1 behind its used part, and `depth`.
+/// What else no check reads is any.
 fn region(slots: [u64; 3]) -> Vec<u8> {
     let random = &mut Random::new(90);
     let mut region = random.bytes(256);
     let root = tables::root(random, &slots, 0, 0);
-    let speed = tables::table(random, b"sound_speed", &[0xCF, 5, 0, 0, 0, 0, 0, 0], 8);
+    let mut speed = tables::table(random, b"sound_speed", &[0xCF, 5, 0, 0, 0, 0, 0, 0], 8);
+    speed[40] = 1;
     let depth = tables::table(random, b"depth", &[0x1F, 0, 0, 0], 0);
     for (place, table) in [(0, root), (64, speed), (112, depth)] {
         put(&mut region, place, &table);
@@ -437,8 +443,9 @@ fn resealed(region: &[u8], at: usize, byte: u8) -> Vec<u8> {
 // SFI tables.
 
 fn sfi_tables() -> Vec<String> {
-    let cpus = cpus();
+    let cpus = laid(&CPUS, 28);
     let failing = &cpus[..27];
+    let two_cpus = laid(&CPUS, 32);
     part(
         "SFI tables",
         &[
@@ -449,12 +456,23 @@ fn sfi_tables() -> Vec<String> {
             check("Revision 2", &resealed_sfi(&cpus, sfi_tables::REVISION, 2)),
             check("Length 27", &resealed_sfi(&cpus, sfi_tables::LENGTH, 27)),
             check("Checksum 0", &changed(&cpus, sfi_tables::CHECKSUM, 0)),
-            entry(&cpus, 0),
-            entry(&cpus, 1),
-            find_syst("at 4064 with Length 32", &memory(4064, 32)),
-            find_syst("at 4064 with Length 40", &memory(4064, 40)),
-            find_syst("131071 bytes", &memory(4064, 40)[..131_071]),
+            check("MMAP with an entry of 40 bytes", &laid(&MMAP, 64)),
+            check("WAKE of 40 bytes", &laid(&WAKE, 40)),
+            check("WAKE of 32 bytes", &laid(&WAKE, 32)),
+            entry("entry 0", &cpus, 0),
+            entry("entry 1", &cpus, 1),
+            entry("entry 1, MMAP of 96 bytes", &laid(&MMAP, 96), 1),
+            find_syst("at 4064 with Length 32", &memory(&[(4064, 32)])),
+            find_syst("at 4064 and at 8192", &memory(&[(4064, 32), (8192, 32)])),
+            find_syst("at 4064 with Length 40", &memory(&[(4064, 40)])),
+            find_syst("131071 bytes", &memory(&[(4064, 40)])[..131_071]),
             choose("choose CPUS, the board's passes", b"CPUS", &cpus, failing),
+            choose(
+                "choose CPUS, both pass, the built-in one with 28 bytes",
+                b"CPUS",
+                &two_cpus,
+                &cpus,
+            ),
             choose("choose CPUS, the board's fails", b"CPUS", failing, &cpus),
             choose("choose CPUS, both fail", b"CPUS", failing, failing),
             choose("choose, another signature", b"CPUX", &cpus, &cpus),
@@ -462,12 +480,12 @@ fn sfi_tables() -> Vec<String> {
     )
 }
 
-/// Length 28, Revision 1, the rest 0, and the checksum that it needs.
-fn cpus() -> Vec<u8> {
-    let mut table = vec![0; 28];
-    put(&mut table, 0, b"CPUS");
-    put_word(&mut table, sfi_tables::LENGTH, 28);
-    table[sfi_tables::REVISION] = 1;
+/// A table of this kind and Length, the rest 0, and the checksum that it needs.
+fn laid(kind: &Kind, length: usize) -> Vec<u8> {
+    let mut table = vec![0; length];
+    put(&mut table, 0, &kind.signature);
+    put_word(&mut table, sfi_tables::LENGTH, length);
+    table[sfi_tables::REVISION] = kind.revision;
     sfi_tables::seal(&mut table);
     table
 }
@@ -480,14 +498,16 @@ fn resealed_sfi(table: &[u8], at: usize, byte: u8) -> Vec<u8> {
 }
 
 fn checksum_of_cpus() -> String {
-    let checksum = cpus()[sfi_tables::CHECKSUM];
+    let checksum = laid(&CPUS, 28)[sfi_tables::CHECKSUM];
     format!("the checksum of CPUS with Length 28, Revision 1, the rest 0: 0x{checksum:02X}")
 }
 
-/// Zeros, and a SYST.
-fn memory(offset: usize, length: usize) -> Vec<u8> {
+/// Zeros, and a SYST of that Length at each of these offsets.
+fn memory(places: &[(usize, usize)]) -> Vec<u8> {
     let mut memory = vec![0; 131_072];
-    lay_syst(&mut memory, offset, length);
+    for &(offset, length) in places {
+        lay_syst(&mut memory, offset, length);
+    }
     memory
 }
 
@@ -498,9 +518,8 @@ fn check(what: &str, slice: &[u8]) -> String {
     })
 }
 
-fn entry(slice: &[u8], k: usize) -> String {
-    let offset = sfi::entry(slice, k);
-    case(format_args!("entry {k}"), offset, shown_offset)
+fn entry(what: &str, slice: &[u8], k: usize) -> String {
+    case(what, sfi::entry(slice, k), shown_offset)
 }
 
 fn find_syst(what: &str, memory: &[u8]) -> String {

@@ -1,4 +1,4 @@
-// The notice ring: posts and takes.
+// The numbers to check by for the notice ring, posts and takes, and every refusal of theirs: a part of the program `vectors`.
 use notice::Positions;
 use notice::Posted;
 use notice::Taken;
@@ -47,10 +47,10 @@ fn at(read: usize, write: usize) -> Positions {
 }
 
 // The largest notice that fits.
-fn run_full(bytes: &[u8], ring: &mut [u8]) -> Positions {
-    let eight = le::head(bytes, 8);
-    let seven = le::head(bytes, 7);
+fn run_full(ring: &mut [u8]) -> Positions {
+    let eight = b"\x01\x02\x03\x04\x05\x06\x07\x08";
     let none = post(b"post, notice 7, 8 bytes", ring, at(0, 0), 7, eight);
+    let seven = le::head(eight, 7);
     post(b"post, notice 7, 7 bytes", ring, none, 7, seven)
 }
 
@@ -62,8 +62,8 @@ fn run_takes(ring: &[u8], full: Positions) -> Positions {
 }
 
 // A notice that runs past the ring's last byte.
-fn run_round(two: &[u8], ring: &mut [u8], empty: Positions) -> Positions {
-    let round = post(b"post, notice 8, 2 bytes", ring, empty, 8, two);
+fn run_round(ring: &mut [u8], empty: Positions) -> Positions {
+    let round = post(b"post, notice 8, 2 bytes", ring, empty, 8, &[1, 2]);
     report::start_line(b"the ring:");
     report::bytes(ring);
     take(b"take, output of 8", ring, round, &mut [0u8; 8])
@@ -79,11 +79,11 @@ fn run_refusals(long: &[u8], now: Positions) {
     take(b"take, a ring of 12", &[0u8; 12], at(0, 0), &mut out);
 }
 
-pub(crate) fn run(bytes: &[u8]) {
+pub fn run() {
     report::text(b"\nNotices in a ring of 16 bytes, empty at 0");
     let mut ring = [0u8; 16];
-    let full = run_full(bytes, &mut ring);
+    let full = run_full(&mut ring);
     let empty = run_takes(&ring, full);
-    let again = run_round(le::head(bytes, 2), &mut ring, empty);
-    run_refusals(le::head(bytes, 1025), again);
+    let again = run_round(&mut ring, empty);
+    run_refusals(&[0u8; 1025], again);
 }

@@ -1,36 +1,22 @@
-// Frames: counted, written and read.
+// The numbers to check by for frames, counted, written and read, and every refusal of theirs: a part of the program `vectors`.
 use frame::Envelope;
 use frame::Header;
 use frame::read::Parsed;
 use frame::write::Counted;
 use frame::write::Written;
 
-pub(crate) const RECEIVER: u32 = 11;
-
-pub(crate) const OTHER_RECEIVER: u32 = 12;
-
-pub(crate) const STATUS: u32 = 0xFFFF_FFFF;
-
-pub(crate) const ID: u32 = 0x0102_0304;
-
-pub(crate) const SENDER: u32 = 10;
+const RECEIVER: u32 = 11;
 
 // The size of the pieces that most messages here are cut in.
 const PIECE: usize = 2;
 
-fn envelope(receiver: u32, status: u32) -> Envelope {
+fn envelope() -> Envelope {
     Envelope {
-        id: ID,
-        sender: SENDER,
-        status,
-        receiver,
+        id: 0x0102_0304,
+        sender: 10,
+        status: 0xFFFF_FFFF,
+        receiver: RECEIVER,
     }
-}
-
-// Writes the frame with that Index of a message in pieces of two.
-pub(crate) fn lay(receiver: u32, status: u32, message: &[u8], index: usize, out: &mut [u8]) {
-    let e = envelope(receiver, status);
-    frame::write::write(e, message, PIECE, index, out);
 }
 
 fn count(total: usize, piece: usize) {
@@ -63,8 +49,7 @@ fn write(message: &[u8], piece: usize, index: usize, out: &mut [u8]) {
         b"\n  write, % bytes in pieces of %, index %, output of %",
         &said,
     );
-    let e = envelope(RECEIVER, STATUS);
-    let written = frame::write::write(e, message, piece, index, out);
+    let written = frame::write::write(envelope(), message, piece, index, out);
     say_written(written, out);
 }
 
@@ -84,8 +69,17 @@ fn say_header(h: Header) {
     );
 }
 
-fn say_parsed(parsed: Parsed, frame: &[u8]) {
-    match parsed {
+// The frame with Index 1, with that byte 0, and zeros behind it.
+fn second(byte_0: u8) -> [u8; 257] {
+    let mut out = [0u8; 257];
+    frame::write::write(envelope(), &[1, 2, 3, 4, 5], PIECE, 1, &mut out);
+    out[0] = byte_0;
+    out
+}
+
+fn read(frame: &[u8]) {
+    report::start_line(b"read, index 1, by receiver 11");
+    match frame::read::parse(frame, RECEIVER) {
         Parsed::Header(h) => {
             say_header(h);
             report::bytes(frame::read::data(frame));
@@ -94,14 +88,12 @@ fn say_parsed(parsed: Parsed, frame: &[u8]) {
     }
 }
 
-// The frame with Index 1, with that byte 0, cut or filled up with zeros to a length.
-fn read(what: &[u8], message: &[u8], byte_0: u8, length: usize, us: u32) {
-    let mut out = [0u8; 257];
-    lay(RECEIVER, STATUS, message, 1, &mut out);
-    out[0] = byte_0;
-    report::start_line(what);
-    let frame = le::head(&out, length);
-    say_parsed(frame::read::parse(frame, us), frame);
+// The refusal of such a frame, of that length; 0 if there is none.
+fn read_refusal(byte_0: u8, length: usize, us: u32) -> u64 {
+    match frame::read::parse(le::head(&second(byte_0), length), us) {
+        Parsed::Header(_) => 0,
+        Parsed::Refused(reason) => reason.number() as u64,
+    }
 }
 
 fn run_writer(five: &[u8], bytes: &[u8], out: &mut [u8]) {
@@ -125,27 +117,44 @@ fn run_refusals(five: &[u8], bytes: &[u8], out: &mut [u8]) {
     write(five, PIECE, 0, &mut [0u8; 25]);
 }
 
-fn run_reader(five: &[u8]) {
+fn run_reader() {
     let right = Header::TYPE_VERSION;
-    read(b"read, index 1, by receiver 11", five, right, 26, RECEIVER);
-    read(b"read, its first 23 bytes", five, right, 23, RECEIVER);
-    read(b"read, 257 bytes", five, right, 257, RECEIVER);
-    read(b"read, byte 0 is 0x12", five, 0x12, 26, RECEIVER);
-    let other = OTHER_RECEIVER;
-    read(b"read, index 1, by receiver 12", five, right, 26, other);
-}
-
-fn title() {
-    report::text(
-        b"Frames of message 0x01020304, sender 10, receiver 11, word 0xFFFFFFFF; byte k of a message is k + 1 modulo 256",
+    read(le::head(&second(right), 26));
+    let said = [
+        read_refusal(right, 23, RECEIVER),
+        read_refusal(right, 257, RECEIVER),
+        read_refusal(0x12, 26, RECEIVER),
+        read_refusal(right, 26, 12),
+    ];
+    report::pattern(
+        b"\n  read, its first 23 bytes: refused with %\n  read, 257 bytes: refused with %\n  read, byte 0 is 0x12: refused with %\n  read, index 1, by receiver 12: refused with %",
+        &said,
     );
 }
 
-pub(crate) fn run(bytes: &[u8]) {
-    title();
+// Byte k becomes (k + 1) mod 256.
+fn count_up(out: &mut [u8]) {
+    let mut byte: u8 = 0;
+    let mut k = 0;
+    while k < out.len() {
+        byte = std::num::wrapping_add_u8(byte, 1);
+        out[k] = byte;
+        k += 1;
+    }
+}
+
+fn run_messages(bytes: &mut [u8]) {
+    count_up(bytes);
     let five = le::head(bytes, 5);
     let mut out = [0u8; Header::FRAME_MAX];
     run_writer(five, bytes, &mut out);
     run_refusals(five, bytes, &mut out);
-    run_reader(five);
+}
+
+pub fn run() {
+    report::text(
+        b"Frames of message 0x01020304, sender 10, receiver 11, word 0xFFFFFFFF; byte k of a message is k + 1 modulo 256",
+    );
+    run_messages(&mut [0u8; 4097]);
+    run_reader();
 }
