@@ -5,7 +5,6 @@ use frame::Header;
 use frame::read::Parsed;
 use frame::write::Counted;
 use frame::write::Written;
-use libc::STDOUT_FILENO;
 use reassembly::State;
 use reassembly::Verdict;
 
@@ -16,50 +15,38 @@ const DECK: u32 = 11;
 
 const PIECE: usize = 16;
 
-fn print(text: &[u8]) {
-    io::write_all(STDOUT_FILENO, text);
-}
-
-fn print_number(n: u64) {
-    io::print_decimal(STDOUT_FILENO, n);
-}
-
-// A name and a value.
-fn print_word(name: &[u8], value: u32) {
-    print(name);
-    print_number(value as u64);
-}
-
 fn print_header(h: Header) {
     let words = h.words;
-    print_word(b"  index ", h.index as u32);
-    print_word(b", message ", words.id);
-    print_word(b", sender ", words.sender);
-    print_word(b", receiver ", h.receiver);
-    print_word(b", total ", words.total);
+    let said = [
+        h.index as u64,
+        words.id as u64,
+        words.sender as u64,
+        h.receiver as u64,
+        words.total as u64,
+    ];
+    report::pattern(
+        b"  index %, message %, sender %, receiver %, total %",
+        &said,
+    );
 }
 
-// The first `n` bytes of a buffer.
-fn print_start(buffer: &[u8], n: usize) {
-    if n <= buffer.len() {
-        print(&buffer[..n]);
-    }
+fn print_message(status: u32, message: &[u8]) {
+    report::pattern(b": delivered, status %: \"", &[status as u64]);
+    report::text(message);
+    report::text(b"\"\n");
 }
 
 fn print_verdict(verdict: Verdict, buffer: &[u8]) {
     match verdict {
-        Verdict::More => print(b": more wanted\n"),
-        Verdict::Delivered(words, n) => {
-            print_word(b": delivered, status ", words.status);
-            print(b": \"");
-            print_start(buffer, n);
-            print(b"\"\n");
-        }
-        Verdict::Refused(reason) => {
-            print_word(b": refused with ", reason.number());
-            print(b"\n");
-        }
+        Verdict::More => report::text(b": more wanted\n"),
+        Verdict::Delivered(words, n) => print_message(words.status, le::head(buffer, n)),
+        Verdict::Refused(reason) => print_refusal(reason.number()),
     }
+}
+
+fn print_refusal(n: u32) {
+    report::refusal(n);
+    report::text(b"\n");
 }
 
 // A frame that arrives.
@@ -78,24 +65,16 @@ fn is_lost(id: u32, index: usize) -> bool {
     id == 2 && index == 1
 }
 
-// The frame at an output's start.
-fn receive_start(state: State, out: &[u8], length: usize, buffer: &mut [u8]) -> State {
-    if length <= out.len() {
-        return receive(state, &out[..length], buffer);
-    }
-    state
-}
-
 fn send_frame(state: State, e: Envelope, message: &[u8], index: usize, buffer: &mut [u8]) -> State {
     if is_lost(e.id, index) {
-        print(b"  lost\n");
+        report::text(b"  lost\n");
         return state;
     }
     let mut out = [0u8; Header::FRAME_MAX];
     let Written::Frame(length) = frame::write::write(e, message, PIECE, index, &mut out) else {
         return state;
     };
-    receive_start(state, &out, length, buffer)
+    receive(state, le::head(&out, length), buffer)
 }
 
 fn send_frames(
@@ -115,10 +94,7 @@ fn send_frames(
 }
 
 fn send(state: State, id: u32, message: &[u8], buffer: &mut [u8]) -> State {
-    print_word(b"message ", id);
-    print(b", ");
-    print_number(message.len() as u64);
-    print(b" bytes\n");
+    report::pattern(b"message %, % bytes\n", &[id as u64, message.len() as u64]);
     let e = Envelope {
         id,
         sender: HEAD,
@@ -128,8 +104,7 @@ fn send(state: State, id: u32, message: &[u8], buffer: &mut [u8]) -> State {
     match frame::write::count(message.len(), PIECE) {
         Counted::Frames(frames) => send_frames(state, e, message, frames, buffer),
         Counted::Refused(reason) => {
-            print_word(b"  refused with ", reason.number());
-            print(b"\n");
+            print_refusal(reason.number());
             state
         }
     }
