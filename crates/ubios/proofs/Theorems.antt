@@ -129,26 +129,27 @@ module _ (base : ℕ) (region name : List ℕ) where
       let two = one-more 1 (between ++ (b ∷ after)) (least-behind 1 (b ∷ after) one between) a ha in
       least-behind 2 (a ∷ (between ++ (b ∷ after))) two before 0
 
--- an answer of the slots, and which of them it is
+-- the slots, and the hits among them
+abbrev slots : ℕ → List ℕ → ℕ → List ℕ
+slots base region root = slotsOf (tableAt base region root)
+
+abbrev met : ℕ → List ℕ → ℕ → List ℕ → List Body
+met base region root name = hits base region name 0 (slots base region root)
+
+-- no refusal, or 37 or 38
+abbrev OfSlots : Found → Type 0
+OfSlots (Only b) = Unit {0}
+OfSlots (Refused reason) = (37 ≤ numberOf reason) × (numberOf reason ≤ 38)
+
+-- such an answer comes of the slots
 module _ (base : ℕ) (region : List ℕ) (root : ℕ) (name : List ℕ) where
-  abbrev slots : List ℕ
-  slots = slotsOf (tableAt base region root)
-
-  abbrev met : List Body
-  met = hits base region name 0 slots
-
-  by-slots : Walked base region root name → found base region root name ≡ lookedUp base region name slots
+  by-slots : Walked base region root name → found base region root name ≡ answerOf (met base region root name)
   by-slots w = in-root base region root name (w .sought) (w .root-table) (w .root-passes)
 
-  -- an answer that is no refusal, or 37 or 38, comes of the slots
-  abbrev OfSlots : Found → Type 0
-  OfSlots (Only b) = Unit {0}
-  OfSlots (Refused reason) = (37 ≤ numberOf reason) × (numberOf reason ≤ 38)
-
-  walked : (f : Found) → OfSlots f → found base region root name ≡ f → Walked base region root name × (lookedUp base region name slots ≡ f)
+  walked : (f : Found) → OfSlots f → found base region root name ≡ f → Walked base region root name × (answerOf (met base region root name) ≡ f)
   walked f of e = by-name (badName name) refl
     where
-      by-root : badName name ≡ false → (c : RootChecked) → rootChecked base region root ≡ c → Walked base region root name × (lookedUp base region name slots ≡ f)
+      by-root : badName name ≡ false → (c : RootChecked) → rootChecked base region root ≡ c → Walked base region root name × (answerOf (met base region root name) ≡ f)
       by-root good (RootRefused reason) q =
           let above = subst OfSlots (sym e ∙ no-root base region root name good reason q) of in
           absurd (omega (arith, root-refusals base region root reason q .1, above .0))
@@ -156,7 +157,7 @@ module _ (base : ℕ) (region : List ℕ) (root : ℕ) (name : List ℕ) where
           let w : Walked base region root name = record { sought = good; root-table = r; root-passes = q } in
           (w, sym (by-slots w) ∙ e)
 
-      by-name : (t : Bool) → badName name ≡ t → Walked base region root name × (lookedUp base region name slots ≡ f)
+      by-name : (t : Bool) → badName name ≡ t → Walked base region root name × (answerOf (met base region root name) ≡ f)
       by-name true q = let above = subst OfSlots (sym e ∙ bad-name base region root name q) of in absurd (omega (arith, above .1))
       by-name false q = by-root q (rootChecked base region root) refl
 
@@ -176,7 +177,7 @@ one-answer (c ∷ d ∷ l) b e = apart (cc)
 pub found-only : FoundOnly
 found-only base region root name b e =
     let w = walked base region root name (Only b) tt e in
-    let p = place base region name 0 (slots base region root name) b [] (one-answer (met base region root name) b (w .1)) in
+    let p = place base region name 0 (slots base region root) b [] (one-answer (met base region root name) b (w .1)) in
     let start : 0 + length (p .before) ≡ length (p .before) = omega arith in (
       w .0,
       record {
@@ -200,11 +201,11 @@ no-answer (b ∷ c ∷ l) e = apart (cc)
 pub found-none : FoundNone
 found-none base region root name e =
     let w = walked base region root name (Refused NoTable) (omega arith, omega arith) e in
-    (w .0, none-lead base region name 0 (slots base region root name) (no-answer (met base region root name) (w .1)))
+    (w .0, none-lead base region name 0 (slots base region root) (no-answer (met base region root name) (w .1)))
 
 pub none-found : NoneFound
 none-found base region root name w none =
-    by-slots base region root name w ∙ ap answerOf (none-hit base region name 0 (slots base region root name) none)
+    by-slots base region root name w ∙ ap answerOf (none-hit base region name 0 (slots base region root) none)
 
 -- 38 comes of two hits, or more
 record Two (l : List Body) : Type 0 where
@@ -227,7 +228,7 @@ pub found-two : FoundTwo
 found-two base region root name e =
     let w = walked base region root name (Refused TwoTables) (omega arith, omega arith) e in
     let two = two-answer (met base region root name) (w .1) in
-    let p = place base region name 0 (slots base region root name) (two .first) (two .second ∷ two .more) (two .all) in
+    let p = place base region name 0 (slots base region root) (two .first) (two .second ∷ two .more) (two .all) in
     let q = place base region name _ (p .after) (two .second) (two .more) (p .others) in (
       w .0,
       record {

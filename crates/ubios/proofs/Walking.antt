@@ -192,8 +192,8 @@ module _ (base : ℕ) (region name : List ℕ) where
     all : lookedUp base region name (addresses count s) ≡ answerOf (from count s 0)
     all = let whole : count - 0 ≡ count = omega arith in rw whole
 
-    pub none-found : firstOf (from count s 0) ≡ None → lookedUp base region name (addresses count s) ≡ Refuses NoTable
-    none-found e = all ∙ go (from count s 0) e
+    pub none-met : firstOf (from count s 0) ≡ None → lookedUp base region name (addresses count s) ≡ Refuses NoTable
+    none-met e = all ∙ go (from count s 0) e
       where
         go : (l : List Body) → firstOf l ≡ None → answerOf l ≡ Refuses NoTable
         go [] q = refl
@@ -207,15 +207,15 @@ module _ (base : ℕ) (region name : List ℕ) where
       pub below-count : b .slot < count
       below-count = known .below
 
-      pub one-found : firstOf (from count s (b .slot + 1)) ≡ None → lookedUp base region name (addresses count s) ≡ Only b
-      one-found e = all ∙ ap answerOf (known .others) ∙ go (from count s (b .slot + 1)) e
+      pub one-met : firstOf (from count s (b .slot + 1)) ≡ None → lookedUp base region name (addresses count s) ≡ Only b
+      one-met e = all ∙ ap answerOf (known .others) ∙ go (from count s (b .slot + 1)) e
         where
           go : (l : List Body) → firstOf l ≡ None → answerOf (b ∷ l) ≡ Only b
           go [] q = refl
           go (c ∷ l) q = apart (cc)
 
-      pub two-found : (c : Body) → firstOf (from count s (b .slot + 1)) ≡ Some c → lookedUp base region name (addresses count s) ≡ answerOf (b ∷ c ∷ [])
-      two-found c e = all ∙ ap answerOf (known .others) ∙ go (from count s (b .slot + 1)) e
+      pub two-met : (c : Body) → firstOf (from count s (b .slot + 1)) ≡ Some c → lookedUp base region name (addresses count s) ≡ answerOf (b ∷ c ∷ [])
+      two-met c e = all ∙ ap answerOf (known .others) ∙ go (from count s (b .slot + 1)) e
         where
           go : (l : List Body) → firstOf l ≡ Some c → answerOf (b ∷ l) ≡ answerOf (b ∷ c ∷ [])
           go [] q = apart (cc)

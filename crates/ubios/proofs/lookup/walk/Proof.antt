@@ -3,7 +3,7 @@
 use mathlib.Core.Path.{_≡_, sym, _∙_}
 use Rattle.ubios.specs.Helpers.{firstOf}
 use Rattle.ubios.specs.declared.lookup.Hit.the-variants.{Some}
-use Rattle.ubios.proofs.Walking.{from, none-found, below-count, one-found, two-found}
+use Rattle.ubios.proofs.Walking.{from, none-met, below-count, one-met, two-met}
 use borrow.Author.Needs.{needs}
 use Rattle.ubios.proofs.lookup.walk.Statement.{statement}
 use Rattle.ubios.proofs.lookup.walk.Tie as tie
@@ -44,19 +44,19 @@ enum-told-3 c = search needs
 returns : tie.Need-returns
 returns c =
     let a = c .before .before .before .before .before .before .args in
-    sym (none-found (a .base) (a .region .now) (a .name .now) (a .count) (a .slots .now) (sym (c .before .before .next-hit .ensures) ∙ c .enum-told .given .1))
+    sym (none-met (a .base) (a .region .now) (a .name .now) (a .count) (a .slots .now) (sym (c .before .before .next-hit .ensures) ∙ c .enum-told .given .1))
 
 returns-2 : tie.Need-returns-2
 returns-2 c =
     let at-first = c .before .before .before in
     let a = start at-first .args in
-    sym (one-found (a .base) (a .region .now) (a .name .now) (a .count) (a .slots .now) _ (one at-first) (sym (c .before .before .next-hit2 .ensures) ∙ c .enum-told2 .given .1))
+    sym (one-met (a .base) (a .region .now) (a .name .now) (a .count) (a .slots .now) _ (one at-first) (sym (c .before .before .next-hit2 .ensures) ∙ c .enum-told2 .given .1))
 
 returns-3 : tie.Need-returns-3
 returns-3 c =
     let at-first = c .before .before .before in
     let a = start at-first .args in
-    sym (two-found (a .base) (a .region .now) (a .name .now) (a .count) (a .slots .now) _ (one at-first) _ (sym (c .before .before .next-hit2 .ensures) ∙ c .enum-told3 .given .1))
+    sym (two-met (a .base) (a .region .now) (a .name .now) (a .count) (a .slots .now) _ (one at-first) _ (sym (c .before .before .next-hit2 .ensures) ∙ c .enum-told3 .given .1))
 
 pub walk-spec : {M : Type 1} → statement M
 walk-spec =
