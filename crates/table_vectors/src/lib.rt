@@ -161,17 +161,20 @@ fn find_twice(name: &[u8]) -> u64 {
     }
 }
 
+fn short_sum() -> u64 {
+    le::sum::sum32(&[1, 0, 0, 0, 0xFF]) as u64
+}
+
+// A root with no slots.
+fn least_root() -> [u8; 64] {
+    unsealed(b"root_table", 40, 0)
+}
+
 fn run_sums() {
-    let root = unsealed(b"root_table", 40, 0);
-    let sum = checksum(le::head(&root, 40));
+    let root = least_root();
+    let sum = checksum(le::head(&root, 40)) as u64;
     let said = check_root(&sealed(root, 40), BASE);
-    let numbers = [
-        le::sum::sum32(&[1, 0, 0, 0, 0xFF]) as u64,
-        sum as u64,
-        said.at,
-        said.used,
-        said.count,
-    ];
+    let numbers = [short_sum(), sum, said.at, said.used, said.count];
     report::pattern(
         b"\n  sum, 01 00 00 00 FF: #\n  the checksum of a root with Total 40, Version 1, all else 0: #\n  that root: at %, % bytes used, % slots",
         &numbers,
@@ -200,31 +203,34 @@ fn run_names(region: &[u8]) {
     );
 }
 
-// A root with another byte at a place, and a right sum.
-fn changed(at: usize, byte: u8) -> u64 {
-    let mut changed = root(0, 0);
-    if at < 64 {
-        changed[at] = byte;
-    }
-    let said = check_root(&sealed(changed, 64), BASE);
+fn root_refusal(root: [u8; 64], address: u64) -> u64 {
+    let said = check_root(&root, address);
     said.refusal
+}
+
+fn changed(mut root: [u8; 64], at: usize, byte: u8) -> [u8; 64] {
+    if at < 64 {
+        root[at] = byte;
+    }
+    root
+}
+
+// A root with another byte at a place, and a right sum.
+fn refusal_with(at: usize, byte: u8) -> u64 {
+    root_refusal(sealed(changed(root(0, 0), at, byte), 64), BASE)
 }
 
 // A place that is no multiple of 8, one past the region, and a reserved byte that is in the sum.
 fn run_refusals() {
-    let mut other = sealed(root(0, 0), 64);
-    let odd = check_root(&other, 4100);
-    let outside = check_root(&other, 8192);
-    other[RESERVED] = 1;
-    let sum = check_root(&other, BASE);
+    let right = sealed(root(0, 0), 64);
     let said = [
-        odd.refusal,
-        outside.refusal,
-        changed(TOTAL, 39),
-        changed(VERSION, 2),
-        sum.refusal,
-        changed(0, b'b'),
-        changed(COUNT, 4),
+        root_refusal(right, 4100),
+        root_refusal(right, 8192),
+        refusal_with(TOTAL, 39),
+        refusal_with(VERSION, 2),
+        root_refusal(changed(right, RESERVED, 1), BASE),
+        refusal_with(0, b'b'),
+        refusal_with(COUNT, 4),
     ];
     report::pattern(
         b"\n  root at 4100: refused with %\n  root at 8192: refused with %\n  root, Total 39: refused with %\n  root, Version 2: refused with %\n  root, one byte more in its sum: refused with %\n  root, another name: refused with %\n  root, Count 4: refused with %",
