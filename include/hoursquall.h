@@ -213,9 +213,9 @@ uint32_t hs_notice_post(uint8_t *ring, size_t ring_len,
  * positions[0] has moved behind the notice, and positions[1] is unchanged. 22: under
  * HS_NOTICE_HEADER_SIZE bytes wait, or Data Length is over HS_NOTICE_MAX or over what
  * waits behind the header. Refusals 20, 21, 22, 23: positions, out, *id and *data_len
- * are unchanged. So after a 22 every take gets 22, until the caller makes both positions
- * equal, which empties the ring; a notice that is posted in between may be taken for the
- * rest of the damaged one. */
+ * are unchanged. So after a 22 every take gets 22, as long as nothing is posted: a notice
+ * posted then may be taken for the rest of the damaged one. The way out is to make both
+ * positions equal, which empties the ring. */
 uint32_t hs_notice_take(const uint8_t *ring, size_t ring_len,
                         size_t positions[HS_POSITIONS], uint8_t *out, size_t out_len,
                         uint32_t *id, size_t *data_len);

@@ -153,6 +153,7 @@ over_budget() {
     done
 }
 
+exec 2>&1 # what a part of it complains of counts too
 said=$(
     broken_links
     missing_names

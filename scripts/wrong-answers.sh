@@ -66,6 +66,7 @@ apply() {
     ' crates/*/wrong-answers/*.edit
 }
 
+[ $# -le 2 ] || usage
 case ${1-} in
 try) try "${2-}" ;;
 apply) apply ;;

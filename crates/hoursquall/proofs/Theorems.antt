@@ -49,8 +49,7 @@ use Rattle.notice.specs.declared.Posted.the-variants.{Stored, Refused as NotPos
 use Rattle.notice.specs.declared.Taken.{Taken}
 use Rattle.notice.specs.declared.Taken.the-variants.{Notice as Got, Refused as NotTaken}
 use Rattle.notice.proofs.Theorem.{ring-is-queue}
-use Rattle.hoursquall.specs.Notice as Notice
-use Rattle.hoursquall.specs.Notice.{positionsOf, postNumber, positionsAfterPost, takeNumber, positionsAfterTake, idAfter, dataLengthAfter, Kept, ofPost, ofTake, postIn, takeIn, toldBy, keptAfter}
+use Rattle.hoursquall.specs.Notice.{positionsOf, postNumber, positionsAfterPost, takeNumber, positionsAfterTake, idAfter, dataLengthAfter, Kept, RingCall, ofPost, ofTake, postIn, takeIn, toldBy, keptAfter}
 use Rattle.hoursquall.specs.Reassembly.{wordMax, stateOf, blockOf, verdictNumber, wordsAfter, isUnread, Lent, lending, stepped, answered, left}
 use Rattle.hoursquall.specs.Statements.{WideWords, Wide, StateCrosses, upInC, framesOf, lentTo, runBlocks, RunCrosses, Demand3Exported, ExactlyTheseExported, RefusalLeavesLent, PositionsCross, runRing, inNumbers, allInNumbers, operationsOf, RingIsQueueExported}
 
@@ -231,7 +230,7 @@ abbrev ringOf : Kept → Ring
 ringOf k = record { bytes = k .ring; at = positionsOf (k .block) }
 
 -- one call tells what is seen of the operation, and leaves the ring that it leaves
-told : (k : Kept) (c : Notice.Call) → toldBy k (c .operation) (c .id) (c .extent) ≡ inNumbers c (ringStep (ringOf k) (c .operation) .seen)
+told : (k : Kept) (c : RingCall) → toldBy k (c .operation) (c .id) (c .extent) ≡ inNumbers c (ringStep (ringOf k) (c .operation) .seen)
 told k c = by (c .operation)
   where
     by : (op : Operation) → toldBy k op (c .id) (c .extent) ≡ inNumbers c (ringStep (ringOf k) op .seen)
@@ -260,7 +259,7 @@ keeps k (take out) = go (takeIn k out)
     go (Got id n next) = refl
     go (NotTaken reason) = refl
 
-ring-crosses : (k : Kept) (cs : List Notice.Call) → runRing k cs ≡ allInNumbers cs (Queue.run ringStep (ringOf k) (operationsOf cs))
+ring-crosses : (k : Kept) (cs : List RingCall) → runRing k cs ≡ allInNumbers cs (Queue.run ringStep (ringOf k) (operationsOf cs))
 unfolding runRing allInNumbers Queue.run
 ring-crosses k [] = refl
 ring-crosses k (c ∷ cs) =

@@ -45,12 +45,12 @@ pub record Kept : Type 0 where
   pub block : List ℕ
 
 -- one call; a take is also lent the places of Notify ID and length, whatever stands there
-pub record Call : Type 0 where
+pub record RingCall : Type 0 where
   pub operation : Operation
   pub id : ℕ
   pub extent : ℕ
 
--- what the caller sees of it: the number, and of a take all that is lent to it, as it stands then
+-- what the caller sees of it: the number, and of a take the output, the Notify ID and the length, as they stand then
 pub data Told : Type 0 where
   ofPost : ℕ → Told
   ofTake : ℕ → List ℕ → ℕ → ℕ → Told

@@ -22,8 +22,7 @@ use Rattle.notice.specs.Queue as Queue
 use Rattle.notice.specs.Queue.{Operation, Seen, accepted, rejected, given, nothing, queueStep}
 use Rattle.notice.specs.Statements.{Capacity}
 use Rattle.hoursquall.specs.Reassembly.{stateOf, blockOf, Lent, lending, answered, left}
-use Rattle.hoursquall.specs.Notice as Notice
-use Rattle.hoursquall.specs.Notice.{positionsOf, positionsAfterPost, positionsAfterTake, Kept, Told, ofPost, ofTake, toldBy, keptAfter}
+use Rattle.hoursquall.specs.Notice.{positionsOf, positionsAfterPost, positionsAfterTake, Kept, RingCall, Told, ofPost, ofTake, toldBy, keptAfter}
 
 -- the carried words are of 32 bits, as each `u32` is
 pub record WideWords (w : Words) : Type 0 where
@@ -118,30 +117,30 @@ PositionsCross =
     × (positionsOf (positionsAfterTake (Got id n p) before) ≡ p)
 
 -- what each call of the list tells, each call with the ring and the block as the last one left them
-unfoldable pub runRing : Kept → List Notice.Call → List Told
+unfoldable pub runRing : Kept → List RingCall → List Told
 runRing k [] = []
 runRing k (c ∷ cs) = toldBy k (c .operation) (c .id) (c .extent) ∷ runRing (keptAfter k (c .operation)) cs
 
 -- the same of the queue: what is seen of an operation, in numbers
-abbrev pub inNumbers : Notice.Call → Seen → Told
+abbrev pub inNumbers : RingCall → Seen → Told
 inNumbers c accepted = ofPost 0
 inNumbers c (rejected reason) = ofPost (Ring.numberOf reason)
 inNumbers c (given id n out) = ofTake 0 out id n
 inNumbers c (nothing reason out) = ofTake (Ring.numberOf reason) out (c .id) (c .extent)
 
-unfoldable pub allInNumbers : List Notice.Call → List Seen → List Told
+unfoldable pub allInNumbers : List RingCall → List Seen → List Told
 allInNumbers [] seen = []
 allInNumbers (c ∷ cs) [] = []
 allInNumbers (c ∷ cs) (s ∷ seen) = inNumbers c s ∷ allInNumbers cs seen
 
-abbrev pub operationsOf : List Notice.Call → List Operation
+abbrev pub operationsOf : List RingCall → List Operation
 operationsOf cs = map (λ c. c .operation) cs
 
 -- `ring-is-queue-exported`. The queue rule as C sees it: from a block of two equal positions below the ring's length, whatever stands in the ring, any list of
--- posts and takes tells, number by number and with all that is lent to a take, what the queue would.
+-- posts and takes tells what the queue would, number by number, with the output, the Notify ID and the length of each take as they stand then.
 abbrev pub RingIsQueueExported : Type 0
 RingIsQueueExported =
-    (k : Kept) (cs : List Notice.Call)
+    (k : Kept) (cs : List RingCall)
     → Capacity (length (k .ring))
     → getD (k .block) 0 0 < length (k .ring)
     → getD (k .block) 1 0 ≡ getD (k .block) 0 0

@@ -167,6 +167,11 @@ within-waiting ring at e =
     let whole = ltb-false (waiting c at - headerSize) (lengthAt ring at) (q .1) in
     omega arith
 
+-- notices with the same parts are the same answer
+pub notice-same : {id j n m read r : ℕ} (write : ℕ) → id ≡ j → n ≡ m → read ≡ r
+    → Notice id n (record { read = read; write = write }) ≡ Notice j m (record { read = r; write = write })
+notice-same write e f g = cc
+
 module _ (ring : List ℕ) (at : Positions) (out : List ℕ) where
   pub take-bad : badRing (length ring) at ≡ true → takenOf ring at out ≡ NotTaken BadRing
   unfolding takenOf

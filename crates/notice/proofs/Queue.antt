@@ -22,7 +22,7 @@ use Rattle.notice.specs.declared.Positions.{Positions}
 use Rattle.notice.specs.declared.Reason.the-variants.{OutputShort}
 use Rattle.notice.specs.declared.Taken.the-variants.{Notice as Got}
 use Rattle.notice.proofs.Turning.{length-turned, turned-back, turned-moved, turned-stored, length-stored, stored-join, moved-below}
-use Rattle.notice.proofs.Answers.{by-write, between, round, waits-between, waits-round, moved-inside, moved-past, no-room, has-room, post-long, post-full, post-stored, undamaged, take-empty, take-short, take-notice}
+use Rattle.notice.proofs.Answers.{by-write, between, round, waits-between, waits-round, moved-inside, moved-past, no-room, has-room, post-long, post-full, post-stored, undamaged, take-empty, notice-same, take-short, take-notice}
 
 -- the lengths of notices
 pub length-notice : (n : Notice) → length (noticeOf (n .id) (n .body)) ≡ size n
@@ -208,10 +208,6 @@ module _ (seen rest : List ℕ) (n : Notice) (fit : Fit n) (starts : seen ≡ no
   behind : drop (size n) seen ≡ rest
   behind = ap (drop (size n)) starts ∙ drop-at (noticeOf (n .id) (n .body)) rest (size n) (length-notice n)
 
-got-same : {id j n m read s : ℕ} (write : ℕ) → id ≡ j → n ≡ m → read ≡ s
-    → Got id n (record { read = read; write = write }) ≡ Got j m (record { read = s; write = write })
-got-same write e f g = cc
-
 -- a take where a notice waits
 module _ (r : Ring) (n : Notice) (q : List Notice) (h : Holds r (n ∷ q)) where
   abbrev capacity : ℕ
@@ -273,7 +269,7 @@ module _ (r : Ring) (n : Notice) (q : List Notice) (h : Holds r (n ∷ q)) where
     unfolding sizes
     handed-out l =
         let answer = take-notice (r .bytes) (r .at) out (ok r (n ∷ q) h) not-empty sound (rw length-is l) in
-        let as-posted = got-same (r .at .write) id-is length-is (ap (λ k. moved capacity (r .at .read) (headerSize + k)) length-is) in
+        let as-posted = notice-same (r .at .write) id-is length-is (ap (λ k. moved capacity (r .at .read) (headerSize + k)) length-is) in
         let room = fits in
         let on = turned-moved (r .at .read) (size n) (r .bytes) (let b = h .read in omega arith) (omega arith) in
         same-steps (ap (λ a. takeStep a r out) (answer ∙ as-posted)) refl

@@ -184,6 +184,8 @@ take-changes ring at out id n next e =
     let body = ListN.take n (drop headerSize (turned (at .read) ring)) in
     let count : length body ≡ n = simp (length-take, length-drop, length-append) (omega arith) in
     record {
+      id-is = cc;
+      n-is = n-is;
       inside = omega arith;
       same-length = rw e (simp (length-append, length-drop) (omega arith));
       first = rw e (take-at body (drop n out) n count);

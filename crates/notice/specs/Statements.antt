@@ -4,6 +4,7 @@ use Prim.Native.Nat.{ℕ, _+_, _%_, _≤_, _<_}
 use mathlib.Core.Path.{_≡_}
 use mathlib.Core.List.{List, [], _++_}
 use lib.ListN.{length, take, drop}
+use Rattle.le.specs.Word.{word}
 use Rattle.notice.specs.Ring.{headerSize, waiting, moved, turned, noticeOf, posted, ringAfter, takenOf, outputAfter}
 use Rattle.notice.specs.declared.Positions.{Positions}
 use Rattle.notice.specs.declared.Posted.the-variants.{Stored}
@@ -71,9 +72,11 @@ PostChanges =
     → posted ring at id body ≡ Stored next
     → PostChanged ring at id body next (ringAfter (posted ring at id body) ring at id body)
 
--- `take-changes`. A take that answers a notice of n bytes changes the output's first n bytes, which are the data, and no other: the output keeps its length
--- and its bytes from n on. The read position moves on by the notice's size, and the write position stays.
-pub record TakeChanged (ring : List ℕ) (at : Positions) (out : List ℕ) (n : ℕ) (next : Positions) (after : List ℕ) : Type 0 where
+-- `take-changes`. A take answers the Notify ID and the Data Length n that stand at the read position, and changes the output's first n bytes, which are the
+-- data, and no other: the output keeps its length and its bytes from n on. The read position moves on by the notice's size, and the write position stays.
+pub record TakeChanged (ring : List ℕ) (at : Positions) (out : List ℕ) (id n : ℕ) (next : Positions) (after : List ℕ) : Type 0 where
+  pub id-is : id ≡ word 4 (turned (at .read) ring)
+  pub n-is : n ≡ word 4 (drop 4 (turned (at .read) ring))
   pub inside : n ≤ length out
   pub same-length : length after ≡ length out
   pub first : take n after ≡ take n (drop headerSize (turned (at .read) ring))
@@ -85,7 +88,7 @@ abbrev pub TakeChanges : Type 0
 TakeChanges =
     (ring : List ℕ) (at : Positions) (out : List ℕ) (id n : ℕ) (next : Positions)
     → takenOf ring at out ≡ Got id n next
-    → TakeChanged ring at out n next (outputAfter (takenOf ring at out) ring at out)
+    → TakeChanged ring at out id n next (outputAfter (takenOf ring at out) ring at out)
 
 -- `damaged-stays`. A 22 changes nothing, so every take from that ring gets 22, whatever its output.
 abbrev pub DamagedStays : Type 0

@@ -1,4 +1,4 @@
-// The lines of the programs that run the numbers to check by: text with numbers in it, and lists of bytes.
+// The lines that the programs print: text with numbers in it, and lists of bytes.
 use libc::STDOUT_FILENO;
 
 // How many bytes of a list are shown.

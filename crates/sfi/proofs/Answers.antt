@@ -141,6 +141,7 @@ passes-only t table e =
         (record {
           sized = s;
           kind = q;
+          signed = listed (signatureOf t) k q .signed;
           revision = eqb-true (revisionOf t) (k .revision) (not-false _ (r .0));
           entries = even;
           one-entry = λ w. eqb-true (lengthOf t) 32 (not-false _ (sym (wake-length k (lengthOf t) even (ap (λ (x : Kind). x .signature) w)) ∙ n .0));
@@ -150,7 +151,7 @@ passes-only t table e =
 
 -- a table that passes has the signature of its kind
 pub passes-as : (t : List ℕ) (table : Table) (signature : ℕ) → checked t ≡ Passed table → passesAs signature (checked t) ≡ eqb (signatureOf t) signature
-passes-as t table signature e = rw (e, listed (signatureOf t) (table .kind) (passes-only t table e .kind) .signed)
+passes-as t table signature e = rw (e, passes-only t table e .signed)
 
 pub fails-as : (t : List ℕ) (reason : Reason) (signature : ℕ) → checked t ≡ Refused reason → passesAs signature (checked t) ≡ false
 fails-as t reason signature e = rw e
@@ -161,9 +162,6 @@ entry-end total size k some h = omega (arith, suc-mul k size, le-div-iff-mul-le 
 
 -- the entries
 module _ (t : List ℕ) (k : ℕ) where
-  pub no-table : (reason : Reason) → checked t ≡ Refused reason → entryOf t k ≡ NotThere reason
-  no-table reason e = rw e
-
   module _ (table : Table) (passes : checked t ≡ Passed table) where
     pub has-entry : k < entriesOf table → entryOf t k ≡ At (entryAt table k)
     has-entry h = rw (passes, lt-ltb k (entriesOf table) h)

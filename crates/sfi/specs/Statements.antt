@@ -9,7 +9,7 @@ use lib.ListN.{length, take, drop}
 use Rattle.le.specs.Word.{word, bytes}
 use Rattle.le.specs.Sum.{sum, checksumOf}
 use Rattle.sfi.specs.Kinds.{syst, cpus, apic, mmap, freq, mrtc, devs, gpio, mtmr, wake, kindOf}
-use Rattle.sfi.specs.Checks.{headerSize, signatureOf, lengthOf, revisionOf, checked, entryOf, passesAs}
+use Rattle.sfi.specs.Checks.{headerSize, lengthOf, checked, entryOf, passesAs}
 use Rattle.sfi.specs.Search.{isHit, located}
 use Rattle.sfi.specs.Choice.{chosen, partOf}
 use Rattle.sfi.specs.declared.kind.Kind.{Kind}
@@ -60,13 +60,14 @@ pub record Sized (size total : ℕ) : Type 0 where
 -- `passes-only`. What passes has a Length in its bounds and of whole entries, one of them in WAKE, the signature and the revision of its kind, and Length bytes that sum
 -- to 0; the answer is that kind, and Length.
 pub record Passing (t : List ℕ) (table : Table) : Type 0 where
-  pub sized : Sized (length t) (lengthOf t)
-  pub kind : kindOf (signatureOf t) ≡ Is (table .kind)
-  pub revision : revisionOf t ≡ table .kind .revision
-  pub entries : (lengthOf t - 24) % table .kind .entry ≡ 0
-  pub one-entry : table .kind ≡ wake → lengthOf t ≡ 32
-  pub zero : sum 1 (take (lengthOf t) t) ≡ 0
-  pub length-is : table .length ≡ lengthOf t
+  pub sized : Sized (length t) (word 4 (drop 4 t))
+  pub kind : kindOf (word 4 t) ≡ Is (table .kind)
+  pub signed : word 4 t ≡ table .kind .signature
+  pub revision : word 1 (drop 8 t) ≡ table .kind .revision
+  pub entries : (word 4 (drop 4 t) - 24) % table .kind .entry ≡ 0
+  pub one-entry : table .kind ≡ wake → word 4 (drop 4 t) ≡ 32
+  pub zero : sum 1 (take (word 4 (drop 4 t)) t) ≡ 0
+  pub length-is : table .length ≡ word 4 (drop 4 t)
 
 abbrev pub PassesOnly : Type 0
 PassesOnly = (t : List ℕ) (table : Table) → checked t ≡ Passed table → Passing t table

@@ -204,7 +204,9 @@ fn run_names(region: &[u8]) {
 }
 
 fn root_refusal(root: [u8; 64], address: u64) -> u64 {
-    let said = check_root(&root, address);
+    let mut region = [0u8; 256];
+    put(root, 0, &mut region);
+    let said = check_root(&region, address);
     said.refusal
 }
 

@@ -7,10 +7,10 @@ use mathlib.Core.Path.{_≡_}
 use mathlib.Core.List.{List, [], _∷_, _++_}
 use lib.Dec.{ltb}
 use lib.ListN.{length, take, drop}
-use Rattle.le.specs.Word.{bytes}
+use Rattle.le.specs.Word.{word, bytes}
 use Rattle.le.specs.Sum.{sum, checksumOf}
 use Rattle.le.specs.Compare.{same}
-use Rattle.ubios.specs.Layout.{tableHeader, version, nameOf, totalOf, versionOf, remainingOf, usedOf, rootName, countOf, slotsOf}
+use Rattle.ubios.specs.Layout.{tableHeader, version, upToZero, nameOf, usedOf, rootName, slotsOf}
 use Rattle.ubios.specs.Checks.{numberOf, tableAt, checked, rootChecked}
 use Rattle.ubios.specs.Lookup.{badName, leads, bodyAt, found}
 use Rattle.ubios.specs.declared.Table.{Table}
@@ -36,15 +36,22 @@ pub record Sized (header size total remaining : ℕ) : Type 0 where
   pub inside : total ≤ size
   pub left : remaining ≤ total - header
 
+-- Total Size and Remaining Size as they stand in memory
+abbrev pub totalIn : ℕ → List ℕ → ℕ → ℕ
+totalIn base region address = word 4 (drop 16 (tableAt base region address))
+
+abbrev pub remainingIn : ℕ → List ℕ → ℕ → ℕ
+remainingIn base region address = word 4 (drop 24 (tableAt base region address))
+
 -- `passes-only`. What passes is aligned, with its header in the region and its sizes in their bounds, has Version 1 and a used part that sums to 0; the answer is where
 -- it stands, and how long that part is.
 pub record Passing (header base : ℕ) (region : List ℕ) (address : ℕ) (table : Table) : Type 0 where
   pub aligned : address % 8 ≡ 0
   pub inside : Inside header base (length region) address
-  pub sized : Sized header (length (tableAt base region address)) (totalOf (tableAt base region address)) (remainingOf (tableAt base region address))
-  pub one : versionOf (tableAt base region address) ≡ 1
-  pub zero : sum 4 (take (usedOf (tableAt base region address)) (tableAt base region address)) ≡ 0
-  pub is : table ≡ record { at = address - base; used = usedOf (tableAt base region address) }
+  pub sized : Sized header (length (tableAt base region address)) (totalIn base region address) (remainingIn base region address)
+  pub one : word 1 (drop 20 (tableAt base region address)) ≡ 1
+  pub zero : sum 4 (take (totalIn base region address - remainingIn base region address) (tableAt base region address)) ≡ 0
+  pub is : table ≡ record { at = address - base; used = totalIn base region address - remainingIn base region address }
 
 abbrev pub PassesOnly : Type 0
 PassesOnly =
@@ -56,10 +63,10 @@ PassesOnly =
 -- has their number.
 pub record Rooted (base : ℕ) (region : List ℕ) (address : ℕ) (root : Root) : Type 0 where
   pub table : Passing 40 base region address (root .table)
-  pub named : nameOf (tableAt base region address) ≡ rootName
+  pub named : upToZero (take 16 (tableAt base region address)) ≡ rootName
   pub few : root .count ≤ 128
   pub room : 40 + 8 * root .count ≤ root .table .used
-  pub count : root .count ≡ countOf (tableAt base region address)
+  pub count : root .count ≡ word 2 (drop 32 (tableAt base region address))
 
 abbrev pub RootPassesOnly : Type 0
 RootPassesOnly =

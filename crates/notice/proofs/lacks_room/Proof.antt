@@ -1,9 +1,8 @@
 -- `notice::lacks_room` meets its contract: by what is free behind a header.
 -- Assumes nothing.
-use Prim.Native.Nat.{ℕ, _-_, _≤_, _<_}
-use mathlib.Core.Path.{sym, ap, _∙_}
+use Prim.Native.Nat.{_≤_, _<_}
+use mathlib.Core.Path.{sym}
 use native.Mathlib.Omega.{arith}
-use lib.Dec.{ltb}
 use Rattle.notice.specs.Ring.{headerSize, free}
 use Rattle.notice.proofs.Answers.{waits-less, no-room, by-rest}
 use borrow.Author.Needs.{needs}
@@ -30,8 +29,7 @@ returns-2 : tie.Need-returns-2
 returns-2 c =
     let args = c .before .before .args in
     let enough : headerSize ≤ free (args .c) (args .at) = rw (← c .before .count-waiting .ensures) (c .if1 .left) in
-    ap (λ (waits : ℕ). ltb (args .c - 1 - waits - headerSize) (args .n)) (c .before .count-waiting .ensures)
-    ∙ sym (by-rest (args .c) (args .at) (args .n) enough)
+    rw (c .before .count-waiting .ensures) (sym (by-rest (args .c) (args .at) (args .n) enough))
 
 pub lacks-room-spec : {M : Type 1} → statement M
 lacks-room-spec = tie.close (tie.spec sub-free count-waiting-requires sub-free-2 returns returns-2)

@@ -13,7 +13,7 @@ use lib.Seq.{take-append-le}
 use Rattle.notice.specs.Ring.{dataMax, headerSize, badRing, waiting, isEmpty, isLong, moved, turned, lengthAt, damaged}
 use Rattle.notice.specs.declared.Taken.the-variants.{Notice}
 use Rattle.notice.proofs.Turning.{moved-below, length-turned, turned-moved}
-use Rattle.notice.proofs.Answers.{Good, good, waits-less, few-wait, over-long, past-waiting, undamaged, take-bad, take-empty, take-damaged, take-short, take-notice}
+use Rattle.notice.proofs.Answers.{Good, good, waits-less, few-wait, over-long, past-waiting, undamaged, take-bad, take-empty, take-damaged, take-short, take-notice, notice-same}
 use borrow.Author.Needs.{needs}
 use Rattle.notice.proofs.take.Statement.{statement}
 use Rattle.notice.proofs.take.Tie as tie
@@ -66,10 +66,6 @@ part-length n out h = simp length-take (omega arith)
 
 part-fits : (n : ℕ) (out ring : List ℕ) → headerSize + n ≤ length ring → length (ListN.take n out) ≤ length ring
 part-fits n out ring h = simp length-take (omega arith)
-
-notice-same : {id j n m read r : ℕ} (write : ℕ) → id ≡ j → n ≡ m → read ≡ r
-    → Notice id n (record { read = read; write = write }) ≡ Notice j m (record { read = r; write = write })
-notice-same write e f g = cc
 
 -- what is read from behind the header is the data
 data-read : (ring : List ℕ) (read n behind : ℕ) → read ≤ length ring → headerSize + n ≤ length ring → behind ≡ moved (length ring) read headerSize

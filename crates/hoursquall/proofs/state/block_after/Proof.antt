@@ -9,16 +9,16 @@ block-of-requires : tie.Need-block-of-requires
 block-of-requires c κs = search needs
 
 returns : tie.Need-returns
-returns c = rw (lt-leb 1 _ (c .before .if1 .taken)) (c .block-of .ensures)
+returns c = rw (lt-leb _ _ (c .before .if1 .taken)) (c .block-of .ensures)
 
 block-of-requires-2 : tie.Need-block-of-requires-2
 block-of-requires-2 c κs = search needs
 
 returns-2 : tie.Need-returns-2
-returns-2 c = rw (le-leb 1 _ (c .before .before .if1 .left), lt-leb _ 4 (c .before .if2 .taken)) (c .block-of2 .ensures)
+returns-2 c = rw (le-leb _ _ (c .before .before .if1 .left), lt-leb _ _ (c .before .if2 .taken)) (c .block-of2 .ensures)
 
 returns-3 : tie.Need-returns-3
-returns-3 c = rw (le-leb 1 _ (c .before .if1 .left), le-leb _ 4 (c .if2 .left))
+returns-3 c = rw (le-leb _ _ (c .before .if1 .left), le-leb _ _ (c .if2 .left))
 
 pub block-after-spec : {M : Type 1} → statement M
 block-after-spec =
