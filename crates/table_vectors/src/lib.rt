@@ -64,20 +64,12 @@ fn root(low: u8, high: u8) -> [u8; 64] {
     root
 }
 
-// 40 bytes of 48 are used, and a byte behind them is not 0.
-fn speed() -> [u8; 64] {
-    let mut table = unsealed(b"sound_speed", 48, 8);
-    table[BODY] = 0xCF;
-    table[BODY + 1] = 5;
-    let mut whole = sealed(table, 40);
-    whole[40] = 1;
-    whole
-}
-
-fn depth() -> [u8; 64] {
-    let mut table = unsealed(b"depth", 36, 0);
-    table[BODY] = 0x1F;
-    sealed(table, 36)
+// A table whose body starts with these two bytes.
+fn table(name: &[u8], total: u8, remaining: u8, used: usize, body: [u8; 2]) -> [u8; 64] {
+    let mut table = unsealed(name, total, remaining);
+    table[BODY] = body[0];
+    table[BODY + 1] = body[1];
+    sealed(table, used)
 }
 
 // A place past the region's end changes nothing.
@@ -87,54 +79,31 @@ fn put(table: [u8; 64], at: usize, region: &mut [u8]) {
     }
 }
 
+// Of `sound_speed` 40 bytes of 48 are used, and a byte behind them is not 0.
 fn region(low: u8, high: u8) -> [u8; 256] {
     let mut region = [0u8; 256];
     put(sealed(root(low, high), 64), 0, &mut region);
-    put(speed(), 64, &mut region);
-    put(depth(), 112, &mut region);
+    put(table(b"sound_speed", 48, 8, 40, [0xCF, 5]), 64, &mut region);
+    put(table(b"depth", 36, 0, 36, [0x1F, 0]), 112, &mut region);
+    region[104] = 1;
     region
 }
 
-// A root or a table that passes, or the refusal.
-struct Said {
-    at: u64,
-    used: u64,
-    count: u64,
-    refusal: u64,
-}
-
-fn passed(table: Table, count: usize) -> Said {
-    Said {
-        at: table.at as u64,
-        used: table.used as u64,
-        count: count as u64,
-        refusal: 0,
-    }
-}
-
-fn refused(refusal: u32) -> Said {
-    Said {
-        at: 0,
-        used: 0,
-        count: 0,
-        refusal: refusal as u64,
-    }
-}
-
-fn check_root(region: &[u8], address: u64) -> Said {
+// Of a root or a table that passes its place, its used part and its slots; else the refusal.
+fn check_root(region: &[u8], address: u64) -> [u64; 4] {
     match Root::check(region, BASE, address) {
         RootChecked::Passed(root) => {
             let table = root.table;
-            passed(table, root.count)
+            [table.at as u64, table.used as u64, root.count as u64, 0]
         }
-        RootChecked::Refused(reason) => refused(reason.number()),
+        RootChecked::Refused(reason) => [0, 0, 0, reason.number() as u64],
     }
 }
 
-fn check_table(region: &[u8], address: u64) -> Said {
+fn check_table(region: &[u8], address: u64) -> [u64; 4] {
     match Table::check(region, BASE, address) {
-        Checked::Passed(table) => passed(table, 0),
-        Checked::Refused(reason) => refused(reason.number()),
+        Checked::Passed(table) => [table.at as u64, table.used as u64, 0, 0],
+        Checked::Refused(reason) => [0, 0, 0, reason.number() as u64],
     }
 }
 
@@ -144,70 +113,56 @@ fn say_body(body: Body, region: &[u8]) {
     report::bytes(le::head(le::tail(region, body.at), body.length));
 }
 
-fn find(region: &[u8], name: &[u8]) {
-    report::start_line(b"find, ");
-    report::text(name);
+fn find(what: &[u8], region: &[u8], name: &[u8]) {
+    report::start_line(what);
     match ubios::lookup::find(region, BASE, BASE, name) {
         Found::Only(body) => say_body(body, region),
         Found::Refused(reason) => report::refusal(reason.number()),
     }
 }
 
-// The look-up where `depth` is in the gap too.
-fn find_twice(name: &[u8]) -> u64 {
-    match ubios::lookup::find(&region(0x70, 0x10), BASE, BASE, name) {
-        Found::Only(_) => 0,
-        Found::Refused(reason) => reason.number() as u64,
-    }
-}
-
-fn short_sum() -> u64 {
-    le::sum::sum32(&[1, 0, 0, 0, 0xFF]) as u64
-}
-
-// A root with no slots.
-fn least_root() -> [u8; 64] {
-    unsealed(b"root_table", 40, 0)
-}
-
+// The least root has no slots.
 fn run_sums() {
-    let root = least_root();
-    let sum = checksum(le::head(&root, 40)) as u64;
-    let said = check_root(&sealed(root, 40), BASE);
-    let numbers = [short_sum(), sum, said.at, said.used, said.count];
+    let root = unsealed(b"root_table", 40, 0);
+    let sum = le::sum::sum32(b"\x01\x00\x00\x00\xFF");
+    let missing = checksum(le::head(&root, 40));
     report::pattern(
-        b"\n  sum, 01 00 00 00 FF: #\n  the checksum of a root with Total 40, Version 1, all else 0: #\n  that root: at %, % bytes used, % slots",
-        &numbers,
+        b"\n  sum, 01 00 00 00 FF: #\n  the checksum of a root with Total 40, Version 1, all else 0: #",
+        &[sum as u64, missing as u64],
     );
+    let least = sealed(root, 40);
+    let said = check_root(&least, BASE);
+    report::pattern(b"\n  that root: at %, % bytes used, % slots", &said);
 }
 
 fn run_tables(region: &[u8]) {
     let root = check_root(region, BASE);
+    report::pattern(b"\n  root: at %, % bytes used, % slots", &root);
     let table = check_table(region, SPEED_ADDRESS);
-    let said = [root.at, root.used, root.count, table.at, table.used];
     report::pattern(
-        b"\n  root: at %, % bytes used, % slots\n  table in slot 1, a byte behind its used part is 1: at %, % bytes used",
-        &said,
+        b"\n  table in slot 1, a byte behind its used part is 1: at %, % bytes used",
+        &table,
     );
 }
 
 fn run_names(region: &[u8]) {
-    find(region, b"sound_speed");
-    find(region, b"depth");
-    find(region, b"bottom");
-    let two = find_twice(b"depth");
-    let none = find_twice(b"");
-    report::pattern(
-        b"\n  find, depth, in two slots: refused with %\n  find, no name: refused with %",
-        &[two, none],
-    );
+    find(b"find, sound_speed", region, b"sound_speed");
+    find(b"find, depth", region, b"depth");
+    find(b"find, bottom", region, b"bottom");
+}
+
+// Where `depth` is in the gap too.
+fn run_twice() {
+    let twice = region(0x70, 0x10);
+    find(b"find, depth, in two slots", &twice, b"depth");
+    find(b"find, no name", &twice, b"");
 }
 
 fn root_refusal(root: [u8; 64], address: u64) -> u64 {
     let mut region = [0u8; 256];
     put(root, 0, &mut region);
     let said = check_root(&region, address);
-    said.refusal
+    said[3]
 }
 
 fn changed(mut root: [u8; 64], at: usize, byte: u8) -> [u8; 64] {
@@ -248,5 +203,6 @@ pub fn run() {
     let gap = region(0, 0);
     run_tables(&gap);
     run_names(&gap);
+    run_twice();
     run_refusals();
 }
