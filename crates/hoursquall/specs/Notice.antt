@@ -61,6 +61,7 @@ postIn k n = Ring.posted (k .ring) (positionsOf (k .block)) (n .id) (n .body)
 abbrev pub takeIn : Kept → List ℕ → Taken
 takeIn k out = Ring.takenOf (k .ring) (positionsOf (k .block)) out
 
+-- what the contracts of the two functions promise of the answer and of what is lent, by operation
 abbrev pub toldBy : Kept → Operation → ℕ → ℕ → Told
 toldBy k (post n) id extent = ofPost (postNumber (postIn k n))
 toldBy k (take out) id extent =

@@ -29,11 +29,6 @@ const COUNT: usize = 32;
 
 const FIRST_SLOT: usize = 40;
 
-// The Checksum of a used part in which it still stands as 0.
-fn checksum(used: &[u8]) -> u32 {
-    std::num::wrapping_sub_u32(0, le::sum::sum32(used))
-}
-
 // A table with no body and Checksum 0.
 fn unsealed(name: &[u8], total: u8, remaining: u8) -> [u8; 64] {
     let mut table = [0u8; 64];
@@ -46,8 +41,9 @@ fn unsealed(name: &[u8], total: u8, remaining: u8) -> [u8; 64] {
 
 // The table with a right Checksum, where it still stands as 0.
 fn sealed(mut table: [u8; 64], used: usize) -> [u8; 64] {
-    let sum = checksum(le::head(&table, used));
-    le::copy(&le::word::u32_bytes(sum), &mut table[CHECKSUM..]);
+    let sum = le::sum::sum32(le::head(&table, used));
+    let missing = std::num::wrapping_sub_u32(0, sum);
+    le::copy(&le::word::u32_bytes(missing), &mut table[CHECKSUM..]);
     table
 }
 
@@ -82,7 +78,7 @@ fn put(table: [u8; 64], at: usize, region: &mut [u8]) {
 // Of `sound_speed` 40 bytes of 48 are used, and a byte behind them is not 0.
 fn region(low: u8, high: u8) -> [u8; 256] {
     let mut region = [0u8; 256];
-    put(sealed(root(low, high), 64), 0, &mut region);
+    le::copy(&sealed(root(low, high), 64), &mut region);
     put(table(b"sound_speed", 48, 8, 40, [0xCF, 5]), 64, &mut region);
     put(table(b"depth", 36, 0, 36, [0x1F, 0]), 112, &mut region);
     region[104] = 1;
@@ -123,16 +119,17 @@ fn find(what: &[u8], region: &[u8], name: &[u8]) {
 
 // The least root has no slots.
 fn run_sums() {
-    let root = unsealed(b"root_table", 40, 0);
+    let root = sealed(unsealed(b"root_table", 40, 0), 40);
     let sum = le::sum::sum32(b"\x01\x00\x00\x00\xFF");
-    let missing = checksum(le::head(&root, 40));
+    let checksum = le::word::u32_at(&root, CHECKSUM);
     report::pattern(
         b"\n  sum, 01 00 00 00 FF: #\n  the checksum of a root with Total 40, Version 1, all else 0: #",
-        &[sum as u64, missing as u64],
+        &[sum as u64, checksum as u64],
     );
-    let least = sealed(root, 40);
-    let said = check_root(&least, BASE);
-    report::pattern(b"\n  that root: at %, % bytes used, % slots", &said);
+    report::pattern(
+        b"\n  that root: at %, % bytes used, % slots",
+        &check_root(&root, BASE),
+    );
 }
 
 fn run_tables(region: &[u8]) {
@@ -160,7 +157,7 @@ fn run_twice() {
 
 fn root_refusal(root: [u8; 64], address: u64) -> u64 {
     let mut region = [0u8; 256];
-    put(root, 0, &mut region);
+    le::copy(&root, &mut region);
     let said = check_root(&region, address);
     said[3]
 }
