@@ -7,8 +7,8 @@ use Rattle.le.specs.Compare.{same}
 use Rattle.frame.specs.Layout.{headerBytes}
 use Rattle.frame.specs.Reading.{parsed}
 use Rattle.frame.specs.Writing.{countOf, counted, written}
-use Rattle.reassembly.specs.Step.{consistent, sameWords, accept, begin, proceed, received, stepOf}
-use Rattle.reassembly.specs.Run.{verdicts}
+use Rattle.reassembly.specs.Step.{consistent, accept, begin, proceed, received}
+use Rattle.reassembly.specs.Run.{answers}
 use Rattle.notice.specs.Ring.{badRing, waiting, moved, posted, takenOf}
 use Rattle.notice.specs.Queue.{run, end}
 use Rattle.ubios.specs.Layout.{upToZero}
@@ -18,5 +18,5 @@ use Rattle.sfi.specs.Checks.{badLength, badEntries, judged as sfiJudged, checke
 use Rattle.cases.specs.Cases.{isCount, isLength, holds, allHold, starred, StarredHold}
 
 pub starred-hold : StarredHold
-unfolding word bytes total totalOf sum headerBytes parsed countOf counted written consistent sameWords accept begin proceed received stepOf verdicts badRing waiting moved posted takenOf run end upToZero outside badSize judged checked rootJudged rootChecked among badLength badEntries sfiJudged sfiChecked same isCount isLength holds allHold starred
+unfolding word bytes total totalOf sum headerBytes parsed countOf counted written consistent accept begin proceed received answers badRing waiting moved posted takenOf run end upToZero outside badSize judged checked rootJudged rootChecked among badLength badEntries sfiJudged sfiChecked same isCount isLength holds allHold starred
 starred-hold = refl

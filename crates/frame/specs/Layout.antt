@@ -1,11 +1,12 @@
 -- Document 01, "Frames": the table of a frame's words (001, table 11).
 -- Assumes nothing.
 use Prim.Native.Nat.{ℕ}
-use mathlib.Core.List.{List, _∷_, _++_}
-use lib.ListN.{drop}
+use mathlib.Core.List.{List, [], _∷_, _++_}
+use lib.ListN.{drop, getD}
 use Rattle.le.specs.Word.{word, bytes}
 use Rattle.frame.specs.declared.Envelope.{Envelope}
 use Rattle.frame.specs.declared.Header.{Header}
+use Rattle.frame.specs.declared.Words.{Words}
 
 -- "A frame is 24 to 256 bytes, so it carries 0 to 232." "A message is 0 to 4,096 bytes."
 abbrev pub headerSize : ℕ
@@ -23,6 +24,13 @@ messageMax = 4096
 -- type 1 in the low four bits, version 1 in the high four
 abbrev pub typeVersion : ℕ
 typeVersion = 0x11
+
+-- the carried words as a list, in the frame's order, and the words that a list is
+abbrev pub wordsOf : Words → List ℕ
+wordsOf w = w .id ∷ w .sender ∷ w .status ∷ w .total ∷ []
+
+abbrev pub wordsFrom : List ℕ → Words
+wordsFrom l = record { id = getD l 0 0; sender = getD l 1 0; status = getD l 2 0; total = getD l 3 0 }
 
 -- the words of a frame as it is read; Reserved, at 1, is ignored
 abbrev pub headerOf : List ℕ → Header

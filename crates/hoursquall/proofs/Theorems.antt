@@ -10,9 +10,9 @@
 --     demand-3-exported, exactly-these-exported   and demand 3 holds of it
 --     ring-is-queue-exported   and so is the ring over blocks of positions the queue
 -- Assumes nothing.
-use Prim.Native.Nat.{ℕ, _+_, _-_, _^_, _≤_, _<_}
-use mathlib.Core.Bool.{Bool, true, false, cond, not, _&&_, _||_}
-use mathlib.Core.Path.{_≡_, refl, sym, ap, ap₂, _∙_}
+use Prim.Native.Nat.{ℕ, _+_, _^_, _≤_, _<_}
+use mathlib.Core.Bool.{Bool, true, false, cond, not, _&&_}
+use mathlib.Core.Path.{_≡_, refl, sym, subst, ap, ap₂, _∙_}
 use mathlib.Core.List.{List, [], _∷_}
 use native.Mathlib.Omega.{arith}
 use borrow.Author.Tests.{eq-eqb, le-ltb, ltb-false, le-leb, lt-leb, leb-true}
@@ -22,18 +22,18 @@ use lib.Seq.{getD-drop}
 use Rattle.le.specs.Word.{word, AreBytes}
 use Rattle.le.proofs.Words.{word-below}
 use Rattle.le.proofs.Tests.{both, either}
-use Rattle.frame.specs.Framing.{All}
-use Rattle.frame.specs.Layout.{headerSize, frameMax, messageMax, typeVersion, headerOf}
-use Rattle.frame.specs.Reading.{parsed, dataOf}
+use Rattle.frame.specs.Layout.{headerSize, frameMax, typeVersion, wordsFrom, headerOf}
+use Rattle.frame.specs.Reading.{parsed}
 use Rattle.frame.specs.declared.Header.{Header}
 use Rattle.frame.specs.declared.Words.{Words}
 use Rattle.frame.specs.declared.read.Parsed.{Parsed}
 use Rattle.frame.specs.declared.read.Parsed.the-variants as Parsed
 use Rattle.frame.specs.declared.read.Reason.the-variants.{FrameShort, FrameLong, WrongType, OtherReceiver}
-use Rattle.reassembly.specs.Step.{Stepped, numberOf, consistent, sameWords, stateAfter, refused, landed, taken, accept, begin, isNext, proceed, isFirst, received, stepOf}
-use Rattle.reassembly.specs.Run.{handedUp, run, messages}
+use Rattle.reassembly.specs.Step.{Stepped, numberOf, stepOf}
+use Rattle.reassembly.specs.Run.{answers, upBy, run, messages}
 use Rattle.reassembly.proofs.Theorem.{demand-3}
-use Rattle.reassembly.proofs.Corollaries.{exactly-these, refusal-leaves}
+use Rattle.reassembly.proofs.Outcome.{Source, begun, continued, Outcome, refuses, delivers, wants, outcome, kept, refusal-leaves}
+use Rattle.reassembly.proofs.Corollaries.{exactly-these}
 use Rattle.reassembly.specs.declared.State.{State}
 use Rattle.reassembly.specs.declared.State.the-variants.{Fresh, Open}
 use Rattle.reassembly.specs.declared.Reason.{Reason}
@@ -63,7 +63,7 @@ below n e = omega (arith, ltb-false wordMax n e)
 pub state-crosses : StateCrosses
 unfolding stateOf
 state-crosses Fresh wide = refl
-state-crosses (Open p) wide = rw (within _ (wide .id), within _ (wide .sender), within _ (wide .status), within _ (wide .total))
+state-crosses (Open p) wide = rw (within _ (wide .0), within _ (wide .1 .0), within _ (wide .1 .1 .0), within _ (wide .1 .1 .1 .0))
 
 pub positions-cross : PositionsCross
 positions-cross id n p before = (refl, refl)
@@ -74,8 +74,8 @@ unless P true p q = p
 unless P false p q = q refl
 
 -- the words of `noState`
-none-wide : WideWords (record { id = 0; sender = 0; status = 0; total = 0 })
-none-wide = record { id = omega arith; sender = omega arith; status = omega arith; total = omega arith }
+none-wide : WideWords (wordsFrom [])
+none-wide = (omega arith, (omega arith, (omega arith, (omega arith, tt))))
 
 state-wide : (block : List ℕ) → Wide (stateOf block)
 unfolding stateOf
@@ -86,7 +86,7 @@ state-wide b =
     unless Wide (ltb wordMax (getD b 2 0)) none-wide (λ sender.
     unless Wide (ltb wordMax (getD b 3 0)) none-wide (λ status.
     unless Wide (ltb wordMax (getD b 4 0)) none-wide (λ total.
-    record { id = below _ id; sender = below _ sender; status = below _ status; total = below _ total }))))))
+    (below _ id, (below _ sender, (below _ status, (below _ total, tt))))))))))
 
 -- the words of a header, if one is read, are of 32 bits
 abbrev WideRead : Parsed → Type 0
@@ -103,7 +103,7 @@ read-wide us f are =
     (either WideRead (ltb frameMax (length f)) tt
     (either WideRead (not (eqb (word 1 f) typeVersion)) tt
     (either WideRead (not (eqb (headerOf f .receiver) us)) tt
-    (record { id = word-wide f are 4; sender = word-wide f are 8; status = word-wide f are 16; total = word-wide f are 20 }))))
+    (word-wide f are 4, (word-wide f are 8, (word-wide f are 16, (word-wide f are 20, tt)))))))
 
 -- no refusal has the number 100
 not-100 : (reason : Reason) → eqb (numberOf reason) 100 ≡ false
@@ -119,50 +119,23 @@ not-100 TooMuchData = refl
 not-100 MessageLong = refl
 not-100 BadState = refl
 
+-- a message's words come from what is open or from the frame, so they are of 32 bits
+source-wide : (us : ℕ) (f : List ℕ) → AreBytes f → (s : State) (w : Words) (i filled : ℕ) → Source us f s w i filled → Wide s → WideWords w
+source-wide us f are s w i filled (begun st h read) wide = subst WideRead read (read-wide us f are)
+source-wide us f are s w i filled (continued q) wide = wide
+
 -- what is wanted of a step: the state after it carries words of 32 bits, and what C sees of it is what it hands up
 record Crosses (before : List ℕ) (st : Stepped) : Type 0 where
   wide : Wide (st .answer .state)
-  seen : upInC (verdictNumber (st .answer .verdict)) (wordsAfter (st .answer .verdict) before) (st .buffer) ≡ handedUp (st .answer .verdict) (st .buffer)
+  seen : upInC (verdictNumber (st .answer .verdict)) (wordsAfter (st .answer .verdict) before) (st .buffer) ≡ upBy st
 
-module _ (before : List ℕ) where
-  refuses : (reason : Reason) (s : State) (b : List ℕ) → Wide (stateAfter reason s) → Crosses before (refused reason s b)
-  refuses reason s b wide = record { wide = wide; seen = rw (not-100 reason) }
-
-  takes : (w : Words) → WideWords w → (i filled : ℕ) (b : List ℕ) → Crosses before (taken w i filled b)
-  takes w wide i filled b = either (Crosses before) (eqb filled (w .total)) (record { wide = tt; seen = refl }) (record { wide = wide; seen = refl })
-
-  accepts : (w : Words) → WideWords w → (i filled : ℕ) (piece b : List ℕ) → Crosses before (accept w i filled piece b)
-  unfolding accept
-  accepts w wide i filled piece b =
-      either (Crosses before) (eqb (length piece) 0 && not (eqb (w .total) 0)) (refuses NoData Fresh b tt)
-      (either (Crosses before) (ltb (w .total - filled) (length piece)) (refuses TooMuchData Fresh b tt)
-      (takes w wide i (filled + length piece) (landed filled piece b)))
-
-  begins : (w : Words) → WideWords w → (piece b : List ℕ) → Crosses before (begin w piece b)
-  unfolding begin
-  begins w wide piece b =
-      either (Crosses before) (ltb messageMax (w .total) || ltb (length b) (w .total)) (refuses MessageLong Fresh b tt)
-      (accepts w wide 0 0 piece b)
-
-  proceeds : (h : Header) (piece : List ℕ) (s : State) → Wide s → (b : List ℕ) → Crosses before (proceed h piece s b)
-  unfolding proceed
-  proceeds h piece Fresh wide b = refuses NothingOpen Fresh b tt
-  proceeds h piece (Open p) wide b =
-      either (Crosses before) (not (isNext h p)) (refuses OutOfOrder (Open p) b tt)
-      (either (Crosses before) (not (sameWords (h .words) (p .words))) (refuses OtherWords (Open p) b tt)
-      (accepts (p .words) wide (p .next) (p .filled) piece b))
-
-  receives : (r : Parsed) → WideRead r → (piece : List ℕ) (s : State) → Wide s → (b : List ℕ) → Crosses before (received r piece s b)
-  unfolding received
-  receives (Parsed.Refused reason) read piece s wide b = refuses (Unread reason) s b wide
-  receives (Parsed.Header h) read piece s wide b =
-      either (Crosses before) (isFirst h) (begins (h .words) read piece b) (proceeds h piece s wide b)
-
-  step-crosses : (us : ℕ) (s : State) → Wide s → (b f : List ℕ) → AreBytes f → Crosses before (stepOf us s b f)
-  unfolding stepOf
-  step-crosses us s wide b f are =
-      either (Crosses before) (not (consistent s (length b))) (refuses BadState s b tt)
-      (receives (parsed us f) (read-wide us f are) (dataOf f) s wide b)
+step-crosses : (before : List ℕ) (us : ℕ) (s : State) → Wide s → (b f : List ℕ) → AreBytes f → Crosses before (stepOf us s b f)
+step-crosses before us s wide b f are = by (outcome us s (length b) f)
+  where
+    by : Outcome us s (length b) f → Crosses before (stepOf us s b f)
+    by (refuses reason bad steps) = rw (steps b refl) (record { wide = kept Wide tt reason s wide; seen = rw (not-100 reason) })
+    by (delivers w i filled source all held steps) = rw (steps b refl) (record { wide = tt; seen = refl })
+    by (wants w i filled source room again steps) = rw (steps b refl) (record { wide = source-wide us f are s w i filled source wide; seen = refl })
 
 -- the numbers of a frame that is not read are 1 to 4
 unread-numbers : (n : ℕ) → 1 ≤ n → n ≤ 4 → isUnread n ≡ true
@@ -203,7 +176,7 @@ block-crosses us lent f wide = go (isUnread (answered us lent f)) refl
     go false e = state-crosses (stepped us lent f .answer .state) wide
 
 pub run-crosses : RunCrosses
-unfolding runBlocks run
+unfolding runBlocks answers
 run-crosses us block b [] are = refl
 run-crosses us block b (c ∷ cs) are =
     let lent = lentTo c block b in
@@ -218,12 +191,12 @@ unfolding stateOf
 demand-3-exported us block b traffic cs calling =
     let starts : stateOf block ≡ Fresh = rw (eq-eqb (getD block 0 0) 0 (calling .fresh)) in
     run-crosses us block b cs (rw (calling .frames-are) (calling .bytes))
-    ∙ rw (starts, calling .frames-are) (demand-3 us b traffic (calling .us-fits) (calling .legal))
+    ∙ rw (starts, calling .frames-are) (demand-3 us b traffic (calling .legal))
 
 pub exactly-these-exported : ExactlyTheseExported
 exactly-these-exported us block b traffic cs calling =
-    ap messages (demand-3-exported us block b traffic cs calling ∙ sym (demand-3 us b traffic (calling .us-fits) (calling .legal)))
-    ∙ exactly-these us b traffic (calling .us-fits) (calling .legal)
+    ap messages (demand-3-exported us block b traffic cs calling ∙ sym (demand-3 us b traffic (calling .legal)))
+    ∙ exactly-these us b traffic (calling .legal)
 
 -- the ring that is kept
 abbrev ringOf : Kept → Ring

@@ -2,10 +2,10 @@
 -- Assumes nothing.
 use Prim.Native.Nat.{ℕ}
 use mathlib.Core.Bool.{Bool, cond, not, _&&_}
-use mathlib.Core.List.{List, [], _∷_}
+use mathlib.Core.List.{List, [], _∷_, _++_}
 use lib.Dec.{eqb, ltb, leb}
 use lib.ListN.{getD, replicate}
-use Rattle.frame.specs.declared.Words.{Words}
+use Rattle.frame.specs.Layout.{wordsOf, wordsFrom}
 use Rattle.reassembly.specs.declared.State.{State}
 use Rattle.reassembly.specs.declared.State.the-variants.{Fresh, Open}
 use Rattle.reassembly.specs.declared.Verdict.{Verdict}
@@ -14,7 +14,7 @@ use Rattle.reassembly.specs.Step as Step
 
 -- an open state that no buffer is consistent with
 abbrev pub noState : State
-noState = Open (record { words = record { id = 0; sender = 0; status = 0; total = 0 }; next = 0; filled = 0 })
+noState = Open (record { words = wordsFrom []; next = 0; filled = 0 })
 
 -- the largest word of 32 bits
 abbrev pub wordMax : ℕ
@@ -39,8 +39,7 @@ stateOf b =
 -- the block that a state is written as
 abbrev pub blockOf : State → List ℕ
 blockOf Fresh = replicate 7 0
-blockOf (Open p) =
-    1 ∷ p .words .id ∷ p .words .sender ∷ p .words .status ∷ p .words .total ∷ p .next ∷ p .filled ∷ []
+blockOf (Open p) = 1 ∷ (wordsOf (p .words) ++ (p .next ∷ p .filled ∷ []))
 
 -- 0: more is wanted; 100: a message is delivered; else the number of the refusal
 abbrev pub verdictNumber : Verdict → ℕ
@@ -50,7 +49,7 @@ verdictNumber (Refused reason) = Step.numberOf reason
 
 abbrev pub wordsAfter : Verdict → List ℕ → List ℕ
 wordsAfter More before = before
-wordsAfter (Delivered w n) before = w .id ∷ w .sender ∷ w .status ∷ w .total ∷ []
+wordsAfter (Delivered w n) before = wordsOf w
 wordsAfter (Refused reason) before = before
 
 -- the numbers of a frame that is not read

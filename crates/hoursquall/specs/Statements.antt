@@ -9,6 +9,7 @@ use lib.Dec.{eqb}
 use lib.ListN.{length, take, getD}
 use Rattle.le.specs.Word.{AreBytes}
 use Rattle.frame.specs.Framing.{All}
+use Rattle.frame.specs.Layout.{wordsOf, wordsFrom}
 use Rattle.frame.specs.declared.Words.{Words}
 use Rattle.reassembly.specs.Run.{HandedUp, run, messages}
 use Rattle.reassembly.specs.Traffic.{Traffic, LegalTraffic, calls, arrived, expected}
@@ -25,11 +26,8 @@ use Rattle.hoursquall.specs.Reassembly.{stateOf, blockOf, Lent, lending,
 use Rattle.hoursquall.specs.Notice.{positionsOf, positionsAfterPost, positionsAfterTake, Kept, RingCall, Told, ofPost, ofTake, toldBy, keptAfter}
 
 -- the carried words are of 32 bits, as each `u32` is
-pub record WideWords (w : Words) : Type 0 where
-  pub id : w .id < 2 ^ 32
-  pub sender : w .sender < 2 ^ 32
-  pub status : w .status < 2 ^ 32
-  pub total : w .total < 2 ^ 32
+abbrev pub WideWords : Words → Type 0
+WideWords w = All (λ n. n < 2 ^ 32) (wordsOf w)
 
 abbrev pub Wide : State → Type 0
 Wide Fresh = Unit {0}
@@ -40,15 +38,11 @@ Wide (Open p) = WideWords (p .words)
 abbrev pub StateCrosses : Type 0
 StateCrosses = (s : State) → Wide s → stateOf (blockOf s) ≡ s
 
--- what C hands up after an answer: with 100 the four words and the buffer's first bytes, as many as the fourth word says, else nothing
+-- what C hands up after an answer: with 100 the carried words and the buffer's first bytes, as many as the total says, else nothing
 abbrev pub upInC : ℕ → List ℕ → List ℕ → Option HandedUp
 upInC number words buffer =
     cond (eqb number 100)
-    (some (record {
-      words = record { id = getD words 0 0; sender = getD words 1 0; status = getD words 2 0; total = getD words 3 0 };
-      length = getD words 3 0;
-      bytes = take (getD words 3 0) buffer;
-    }))
+    (some (record { words = wordsFrom words; length = wordsFrom words .total; bytes = take (wordsFrom words .total) buffer }))
     none
 
 -- one call: its frame, and what is lent to it for the words, which the caller may lend anew each time
@@ -80,7 +74,6 @@ RunCrosses =
 -- the calls of C over the frames of legal traffic, "Start fresh,": with a block whose first number is 0, whatever follows it and whatever stands in the
 -- buffer and, at each call, in the words. The rest is as in `Demand3` of the crate `reassembly`.
 pub record Calling (us : ℕ) (block buffer : List ℕ) (traffic : Traffic) (cs : List Call) : Type 0 where
-  pub us-fits : us < 2 ^ 32
   pub fresh : getD block 0 0 ≡ 0
   pub legal : LegalTraffic us (length buffer) traffic
   pub bytes : All AreBytes (calls us traffic)

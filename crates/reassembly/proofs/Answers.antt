@@ -9,18 +9,16 @@ use lib.Dec.{leb, ltb}
 use lib.ListN.{length}
 use Rattle.le.proofs.Tests.{both}
 use Rattle.frame.specs.Layout.{messageMax}
-use Rattle.frame.specs.Reading.{parsed, dataOf}
 use Rattle.frame.specs.declared.Header.{Header}
 use Rattle.frame.specs.declared.Words.{Words}
+use Rattle.frame.specs.declared.read.Parsed.{Parsed}
 use Rattle.frame.specs.declared.read.Parsed.the-variants as Parsed
-use Rattle.frame.specs.declared.read.Reason.{Reason}
-use Rattle.reassembly.specs.Step.{Stepped, consistent, sameWords, refused, landed, delivered, wanting, taken, isNext, isFirst, accept, begin, proceed, received, stepOf}
-use Rattle.reassembly.specs.Helpers.{lacksData}
+use Rattle.reassembly.specs.Step.{Stepped, consistent, sameWords, refused, landed, delivered, wanting, taken, lacksData, isNext, isFirst, accept, begin, proceed, routed, received}
 use Rattle.reassembly.specs.declared.Answer.{Answer}
 use Rattle.reassembly.specs.declared.Progress.{Progress}
 use Rattle.reassembly.specs.declared.State.{State}
 use Rattle.reassembly.specs.declared.State.the-variants.{Fresh, Open}
-use Rattle.reassembly.specs.declared.Reason.the-variants.{Unread, NothingOpen, OutOfOrder, OtherWords, NoData, TooMuchData, MessageLong, BadState}
+use Rattle.reassembly.specs.declared.Reason.the-variants.{NothingOpen, OutOfOrder, OtherWords, NoData, TooMuchData, MessageLong, BadState}
 
 -- an answer and a buffer that are those of a step's law are those of the step
 pub as-in : (st law : Stepped) (answer : Answer) (buffer : List ℕ) → st ≡ law → answer ≡ law .answer → buffer ≡ law .buffer
@@ -145,21 +143,20 @@ module _ (h : Header) (p b : List ℕ) where
     unfolding proceed
     goes-on i w = rw (i, w)
 
--- 11, 1 to 4, and by the Index
-module _ (us : ℕ) (s : State) (b f : List ℕ) where
-  pub bad-state : consistent s (length b) ≡ false → stepOf us s b f ≡ refused BadState s b
-  unfolding stepOf
+-- by the Index
+module _ (h : Header) (p : List ℕ) (s : State) (b : List ℕ) where
+  pub index-zero : isFirst h ≡ true → routed (Parsed.Header h) p s b ≡ begin (h .words) p b
+  index-zero i = rw i
+
+  pub index-more : isFirst h ≡ false → routed (Parsed.Header h) p s b ≡ proceed h p s b
+  index-more i = rw i
+
+-- 11, and what is looked at then
+module _ (r : Parsed) (p : List ℕ) (s : State) (b : List ℕ) where
+  pub bad-state : consistent s (length b) ≡ false → received r p s b ≡ refused BadState s b
+  unfolding received
   bad-state h = rw h
 
-  module _ (ok : consistent s (length b) ≡ true) where
-    pub unread-frame : (reason : Reason) → parsed us f ≡ Parsed.Refused reason → stepOf us s b f ≡ refused (Unread reason) s b
-    unfolding stepOf received
-    unread-frame reason e = rw (ok, e)
-
-    pub index-zero : (h : Header) → parsed us f ≡ Parsed.Header h → isFirst h ≡ true → stepOf us s b f ≡ begin (h .words) (dataOf f) b
-    unfolding stepOf received
-    index-zero h e i = rw (ok, e, i)
-
-    pub index-more : (h : Header) → parsed us f ≡ Parsed.Header h → isFirst h ≡ false → stepOf us s b f ≡ proceed h (dataOf f) s b
-    unfolding stepOf received
-    index-more h e i = rw (ok, e, i)
+  pub good-state : consistent s (length b) ≡ true → received r p s b ≡ routed r p s b
+  unfolding received
+  good-state h = rw h

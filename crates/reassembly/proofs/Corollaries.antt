@@ -1,45 +1,28 @@
--- What follows for states and runs: `exactly-these`, `put-in-exactly`, `stays-consistent`, `never-bad`, `refusal-leaves`, `never-in-vain`,
--- `sent-is-framed`, `framed-is-sent`, `written-is-handed-up`.
+-- What follows for runs: `exactly-these`, `put-in-exactly`, `never-bad`, `never-in-vain`, `sent-is-framed`, `framed-is-sent`, `written-is-handed-up`.
 -- Assumes nothing.
-use Prim.Native.Nat.{ℕ, zero, suc, _+_, _-_, _^_, _≤_, _<_}
+use Prim.Native.Nat.{ℕ, zero, suc, _+_, _-_, _≤_}
 use mathlib.Core.Bool.{Bool, true, false, cond}
 use mathlib.Core.Path.{_≡_, refl, sym, ap, ap₂, _∙_}
 use mathlib.Core.List.{List, [], _∷_, _++_, map, flatten, filterMap, filterMap-append}
 use mathlib.Core.Option.{Option, none, some, Option·elim}
-use native.Mathlib.Nat.{pos-of-ne-zero}
 use native.Mathlib.Omega.{arith}
-use borrow.Author.Tests.{ltb-true, ltb-false, eqb-true, eqb-false, eq-eqb, le-leb, not-false}
-use lib.Dec.{ltb, eqb}
 use lib.ListN.{length, replicate}
-use Rattle.le.proofs.Tests.{apart, both}
-use Rattle.frame.specs.Layout.{messageMax, headerFor, frameOf}
-use Rattle.frame.specs.Reading as Reading
-use Rattle.frame.specs.Reading.{parsed, dataOf}
+use Rattle.le.proofs.Tests.{both}
+use Rattle.frame.specs.Layout.{headerFor, frameOf}
 use Rattle.frame.specs.Framing.{All, Cut, framesFrom, Framing}
-use Rattle.frame.specs.Statements.{countUp}
+use Rattle.frame.specs.Statements.{Fits, countUp}
 use Rattle.frame.specs.declared.Envelope.{Envelope}
-use Rattle.frame.specs.declared.Header.{Header}
-use Rattle.frame.specs.declared.Words.{Words}
-use Rattle.frame.specs.declared.read.Parsed.{Parsed}
-use Rattle.frame.specs.declared.read.Parsed.the-variants as Parsed
-use Rattle.frame.specs.declared.read.Reason.{Reason as ReadReason}
-use Rattle.frame.specs.declared.read.Reason.the-variants.{FrameShort, FrameLong, WrongType, OtherReceiver}
 use Rattle.frame.proofs.Theorems.{writes-a-framing}
-use Rattle.reassembly.specs.Step.{Stepped, numberOf, consistent, sameWords, stateAfter, refused, waiting, landed, delivered, wanting, isNext, isFirst, accept, begin, proceed, stepOf}
-use Rattle.reassembly.specs.Run.{HandedUp, handedUp, run, messages, verdicts}
-use Rattle.reassembly.specs.Traffic.{Message, Sent, Transmission, Traffic, PutIn, FirstArrives, Legal, envelopeFor, callsFrom, callsOf, calls, allArrive, asSent, nothing, ifLast, expectedFrom, gives, arrived, expectedOf, expected}
-use Rattle.reassembly.specs.Helpers.{lacksData}
-use Rattle.reassembly.specs.Statements.{ExactlyThese, PutInExactly, NotBad, StaysConsistent, NeverBad, RefusalLeaves, untouched, SentIsFramed, FramedIsSent, NeverInVain, Outgoing, LegalOutgoing, framesOf, handsUp, WrittenIsHandedUp}
-use Rattle.reassembly.specs.declared.Progress.{Progress}
+use Rattle.reassembly.specs.Step.{refused, stepOf}
+use Rattle.reassembly.specs.Run.{HandedUp, answers, upBy, run, messages}
+use Rattle.reassembly.specs.Traffic.{Message, Sent, Transmission, Traffic, PutIn, Framed, Legal, envelopeFor, callsFrom, callsOf, calls, allArrive, asSent, nothing, ifLast, expectedFrom, gives, arrived, expectedOf, expected}
+use Rattle.reassembly.specs.Statements.{ExactlyThese, PutInExactly, NeverBad, untouched, SentIsFramed, FramedIsSent, NeverInVain, Outgoing, LegalOutgoing, framesOf, handsUp, WrittenIsHandedUp}
 use Rattle.reassembly.specs.declared.State.{State}
 use Rattle.reassembly.specs.declared.State.the-variants.{Fresh, Open}
-use Rattle.reassembly.specs.declared.Reason.{Reason}
-use Rattle.reassembly.specs.declared.Reason.the-variants.{Unread, NothingOpen, OutOfOrder, OtherWords, NoData, TooMuchData, MessageLong, BadState}
-use Rattle.reassembly.specs.declared.Verdict.{Verdict}
-use Rattle.reassembly.specs.declared.Verdict.the-variants.{Refused}
-use Rattle.reassembly.proofs.Answers.{fresh, by-room, consistent-open, lacking, excess, data-taken, whole, not-whole, over-limit, over-buffer, begins, none-open, other-index, other-words, goes-on, bad-state, unread-frame, index-zero, index-more}
-use Rattle.reassembly.proofs.Steps.{unread, unread-only, length-landed}
-use Rattle.reassembly.proofs.Theorem.{Ready, Continues, never-last, all-messages, demand-3}
+use Rattle.reassembly.proofs.Answers.{fresh, whole}
+use Rattle.reassembly.proofs.Steps.{unread, unread-only}
+use Rattle.reassembly.proofs.Outcome.{stays-consistent, small}
+use Rattle.reassembly.proofs.Theorem.{starts-somewhere, never-last, Ready, Apart, all-messages, unlike-any, told-apart, all-framed, demand-3}
 
 -- entry by entry: only the last frame of a message that lost none hands it up
 none-up : (js : List (List ℕ)) → messages (nothing js) ≡ []
@@ -68,137 +51,37 @@ whole-up m s (r ∷ ss) all =
     let arrive = both (s .arrives) (allArrive (r ∷ ss)) all in
     frame-up s (s .arrives) none (expectedFrom (some m) (r ∷ ss)) ∙ rw (arrive .0) (whole-up m r ss (arrive .1))
 
-message-up : (t : Transmission) → FirstArrives (t .frames) → (rest : List HandedUp)
+message-up : (t : Transmission) → Cut (t .message .bytes) (map (λ s. s .piece) (t .frames)) → (rest : List HandedUp)
     → messages (expectedFrom (gives t) (t .frames)) ++ rest ≡ Option·elim (gives t) rest (λ m. m ∷ rest)
 unfolding Option·elim
-message-up t first rest = go (t .frames) first (allArrive (t .frames)) refl
+message-up t cut rest = go (t .frames) cut (allArrive (t .frames)) refl
   where
-    go : (ss : List Sent) → FirstArrives ss → (all : Bool) → allArrive ss ≡ all
+    go : (ss : List Sent) → Cut (t .message .bytes) (map (λ s. s .piece) ss) → (all : Bool) → allArrive ss ≡ all
         → messages (expectedFrom (cond all (some (asSent (t .message))) none) ss) ++ rest
         ≡ Option·elim (cond all (some (asSent (t .message))) none) rest (λ m. m ∷ rest)
-    go [] first all e = absurd first
-    go (s ∷ ss) first true e = rw (whole-up (asSent (t .message)) s ss e)
-    go (s ∷ ss) first false e = rw (lost-up (s ∷ ss))
+    go [] cut all e = absurd (starts-somewhere (t .message .bytes) cut)
+    go (s ∷ ss) cut true e = rw (whole-up (asSent (t .message)) s ss e)
+    go (s ∷ ss) cut false e = rw (lost-up (s ∷ ss))
 
-all-up : (us room : ℕ) (ts : List Transmission) (js : List (List ℕ)) → All (Legal us room) ts → messages (expectedOf ts js) ≡ arrived ts
+-- whichever frames are lost
+all-up : (us room : ℕ) (ts : List Transmission) (js : List (List ℕ)) → All (Framed us room) ts → messages (expectedOf ts js) ≡ arrived ts
 unfolding expectedOf filterMap
-all-up us room [] js legal = none-up js
-all-up us room (t ∷ ts) js legal =
+all-up us room [] js framed = none-up js
+all-up us room (t ∷ ts) js framed =
     filterMap-append (λ e. e) (expectedFrom (gives t) (t .frames)) (expectedOf ts js)
-    ∙ ap (λ (l : List HandedUp). messages (expectedFrom (gives t) (t .frames)) ++ l) (all-up us room ts js (legal .1))
-    ∙ message-up t (legal .0 .first-arrives) (arrived ts)
+    ∙ ap (λ (l : List HandedUp). messages (expectedFrom (gives t) (t .frames)) ++ l) (all-up us room ts js (framed .1))
+    ∙ message-up t (framed .0 .cut) (arrived ts)
 
 pub exactly-these : ExactlyThese
-exactly-these us b t fits legal = ap messages (demand-3 us b t fits legal) ∙ all-up us (length b) (t .sent) (t .after) (legal .all)
-
--- what a step from a fresh or consistent state can come to: a refusal other than 11, a message, or an open state that is consistent again
-data Outcome (s : State) (b : List ℕ) : Stepped → Type 0 where
-  refuses : (reason : Reason) → (reason ≡ BadState → ⊥) → Outcome s b (refused reason s b)
-  delivers : (w : Words) (b′ : List ℕ) → length b′ ≡ length b → Outcome s b (delivered w b′)
-  wants : (w : Words) (i filled : ℕ) (b′ : List ℕ) → length b′ ≡ length b → consistent (waiting w (suc i) filled) (length b) ≡ true → Outcome s b (wanting w i filled b′)
-
-lacks-none : (n total : ℕ) → lacksData n total ≡ false → n ≡ 0 → total ≡ 0
-lacks-none n total h e = eqb-true total 0 (not-false (eqb total 0) (rw (eq-eqb n 0 e) at h))
-
-module _ (s : State) (b : List ℕ) where
-  accept-outcome : (w : Words) (i filled : ℕ) (p : List ℕ) → i ≤ filled → filled ≤ w .total → w .total ≤ messageMax → w .total ≤ length b
-      → Outcome s b (accept w i filled p b)
-  accept-outcome w i filled p order part bounded held = by-data (lacksData (length p) (w .total)) refl
-    where
-      by-end : lacksData (length p) (w .total) ≡ false → length p ≤ w .total - filled → (all : Bool) → eqb (filled + length p) (w .total) ≡ all
-          → Outcome s b (accept w i filled p b)
-      by-end present fits true e =
-          let h = eqb-true (filled + length p) (w .total) e in
-          rw (data-taken w i filled p b present fits ∙ whole w i (filled + length p) (landed filled p b) h)
-          (delivers w (landed filled p b) (length-landed filled p b (omega arith)))
-      by-end present fits false e =
-          let h = eqb-false (filled + length p) (w .total) e in
-          let some-p : 0 < length p = pos-of-ne-zero (λ z. h (let none-at-all = lacks-none (length p) (w .total) present z in omega arith)) in
-          let less : filled + length p < w .total = omega arith in
-          let q : Progress = record { words = w; next = suc i; filled = filled + length p } in
-          let again = by-room q (length b) (omega arith) (omega arith) less bounded ∙ le-leb (w .total) (length b) held in
-          rw (data-taken w i filled p b present fits ∙ not-whole w i (filled + length p) (landed filled p b) h)
-          (wants w i (filled + length p) (landed filled p b) (length-landed filled p b (omega arith)) again)
-
-      by-size : lacksData (length p) (w .total) ≡ false → (much : Bool) → ltb (w .total - filled) (length p) ≡ much → Outcome s b (accept w i filled p b)
-      by-size present true e = rw (excess w i filled p b present (ltb-true (w .total - filled) (length p) e)) (refuses TooMuchData (λ q. apart (cc)))
-      by-size present false e = by-end present (ltb-false (w .total - filled) (length p) e) _ refl
-
-      by-data : (lacks : Bool) → lacksData (length p) (w .total) ≡ lacks → Outcome s b (accept w i filled p b)
-      by-data true e = rw (lacking w i filled p b e) (refuses NoData (λ q. apart (cc)))
-      by-data false e = by-size e _ refl
-
-  begin-outcome : (w : Words) (p : List ℕ) → Outcome s b (begin w p b)
-  begin-outcome w p = by-limit (ltb messageMax (w .total)) refl
-    where
-      by-buffer : w .total ≤ messageMax → (long : Bool) → ltb (length b) (w .total) ≡ long → Outcome s b (begin w p b)
-      by-buffer bounded true e = rw (over-buffer w p b bounded (ltb-true (length b) (w .total) e)) (refuses MessageLong (λ q. apart (cc)))
-      by-buffer bounded false e =
-          let held = ltb-false (length b) (w .total) e in
-          rw (begins w p b bounded held) (accept-outcome w 0 0 p (omega arith) (omega arith) bounded held)
-
-      by-limit : (long : Bool) → ltb messageMax (w .total) ≡ long → Outcome s b (begin w p b)
-      by-limit true e = rw (over-limit w p b (ltb-true messageMax (w .total) e)) (refuses MessageLong (λ q. apart (cc)))
-      by-limit false e = by-buffer (ltb-false messageMax (w .total) e) _ refl
-
-proceed-outcome : (h : Header) (p : List ℕ) (s : State) (b : List ℕ) → consistent s (length b) ≡ true → Outcome s b (proceed h p s b)
-proceed-outcome h p Fresh b ok = rw (none-open h p b) (refuses NothingOpen (λ q. apart (cc)))
-proceed-outcome h p (Open q) b ok = by-index (isNext h q) refl
-  where
-    by-words : isNext h q ≡ true → (same : Bool) → sameWords (h .words) (q .words) ≡ same → Outcome (Open q) b (proceed h p (Open q) b)
-    by-words i true e =
-        let known = consistent-open q (length b) ok in
-        rw (goes-on h p b q i e)
-        (accept-outcome (Open q) b (q .words) (q .next) (q .filled) p (known .order) (omega (arith, known .less)) (known .bounded) (known .held))
-    by-words i false e = rw (other-words h p b q i e) (refuses OtherWords (λ z. apart (cc)))
-
-    by-index : (next : Bool) → isNext h q ≡ next → Outcome (Open q) b (proceed h p (Open q) b)
-    by-index true e = by-words e _ refl
-    by-index false e = rw (other-index h p b q e) (refuses OutOfOrder (λ z. apart (cc)))
-
-outcome : (us : ℕ) (s : State) (b f : List ℕ) → consistent s (length b) ≡ true → Outcome s b (stepOf us s b f)
-outcome us s b f ok = by-header (parsed us f) refl
-  where
-    by-index : (h : Header) → parsed us f ≡ Parsed.Header h → (begins-anew : Bool) → isFirst h ≡ begins-anew → Outcome s b (stepOf us s b f)
-    by-index h q true e = rw (index-zero us s b f ok h q e) (begin-outcome s b (h .words) (dataOf f))
-    by-index h q false e = rw (index-more us s b f ok h q e) (proceed-outcome h (dataOf f) s b ok)
-
-    by-header : (p : Parsed) → parsed us f ≡ p → Outcome s b (stepOf us s b f)
-    by-header (Parsed.Refused reason) q = rw (unread-frame us s b f ok reason q) (refuses (Unread reason) (λ z. apart (cc)))
-    by-header (Parsed.Header h) q = by-index h q _ refl
-
--- a refusal's state is the state before or fresh
-kept : (reason : Reason) (s : State) (room : ℕ) → consistent s room ≡ true → consistent (stateAfter reason s) room ≡ true
-kept (Unread reason) s room ok = ok
-kept NothingOpen s room ok = fresh room
-kept OutOfOrder s room ok = fresh room
-kept OtherWords s room ok = fresh room
-kept NoData s room ok = fresh room
-kept TooMuchData s room ok = fresh room
-kept MessageLong s room ok = fresh room
-kept BadState s room ok = fresh room
-
-pub stays-consistent : StaysConsistent
-stays-consistent us s b f ok = by (stepOf us s b f) (outcome us s b f ok)
-  where
-    by : (st : Stepped) → Outcome s b st → NotBad (st .answer .verdict) × (consistent (st .answer .state) (length b) ≡ true) × (length (st .buffer) ≡ length b)
-    by st (refuses reason other) = ((λ q. other (cc)), kept reason s (length b) ok, refl)
-    by st (delivers w b′ len) = ((λ q. apart (cc)), fresh (length b), len)
-    by st (wants w i filled b′ len again) = ((λ q. apart (cc)), again, len)
+exactly-these us b t legal =
+    ap messages (demand-3 us b t legal) ∙ all-up us (length b) (t .sent) (t .after) (all-framed us (length b) (t .sent) (legal .all))
 
 pub never-bad : NeverBad
-unfolding verdicts
+unfolding answers
 never-bad us s b [] ok = tt
 never-bad us s b (f ∷ fs) ok =
     let after = stays-consistent us s b f ok in
     (after .0, never-bad us (stepOf us s b f .answer .state) (stepOf us s b f .buffer) fs (rw (after .2) (after .1)))
-
--- the numbers of a frame that does not parse
-small : (reason : ReadReason) → (1 ≤ Reading.numberOf reason) × (Reading.numberOf reason ≤ 4)
-small FrameShort = (omega arith, omega arith)
-small FrameLong = (omega arith, omega arith)
-small WrongType = (omega arith, omega arith)
-small OtherReceiver = (omega arith, omega arith)
 
 pub put-in-exactly : PutInExactly
 put-in-exactly us f = (
@@ -206,50 +89,30 @@ put-in-exactly us f = (
   (λ u. unread-only us f (u .reason) (u .refused)),
 )
 
-column : (reason : Reason) (s : State) → (numberOf reason ≤ 4 → stateAfter reason s ≡ s) × (5 ≤ numberOf reason → stateAfter reason s ≡ Fresh)
-column (Unread reason) s = ((λ h. refl), (λ h. absurd (omega (arith, small reason .1))))
-column NothingOpen s = ((λ h. absurd (omega arith)), (λ h. refl))
-column OutOfOrder s = ((λ h. absurd (omega arith)), (λ h. refl))
-column OtherWords s = ((λ h. absurd (omega arith)), (λ h. refl))
-column NoData s = ((λ h. absurd (omega arith)), (λ h. refl))
-column TooMuchData s = ((λ h. absurd (omega arith)), (λ h. refl))
-column MessageLong s = ((λ h. absurd (omega arith)), (λ h. refl))
-column BadState s = ((λ h. absurd (omega arith)), (λ h. refl))
-
-pub refusal-leaves : RefusalLeaves
-refusal-leaves us s b f reason q = by-state (consistent s (length b)) refl
-  where
-    Leaves : Stepped → Type 0
-    Leaves st = (numberOf reason ≤ 4 → st .answer .state ≡ s) × (5 ≤ numberOf reason → st .answer .state ≡ Fresh) × (st .buffer ≡ b)
-
-    by : (st : Stepped) → Outcome s b st → st .answer .verdict ≡ Refused reason → Leaves st
-    by st (refuses r other) q = let same : r ≡ reason = cc in rw (← same) (column r s .0, column r s .1, refl)
-    by st (delivers w b′ len) q = apart (cc)
-    by st (wants w i filled b′ len again) q = apart (cc)
-
-    by-state : (ok : Bool) → consistent s (length b) ≡ ok → Leaves (stepOf us s b f)
-    by-state true e = by (stepOf us s b f) (outcome us s b f e) q
-    by-state false e =
-        let bad = bad-state us s b f e in
-        let answered : _≡_ {A = Verdict} (Refused BadState) (Refused reason) = rw bad at q in
-        let same : BadState ≡ reason = cc in
-        rw (bad, ← same) (column BadState s .0, column BadState s .1, refl)
-
 -- after any frames at all
-after-any : (us room : ℕ) (us-fits : us < 2 ^ 32) (rest : List (List ℕ)) (E : List (Option HandedUp)) → Continues us room us-fits rest E
-    → (fs : List (List ℕ)) (s : State) (b : List ℕ) → Ready us room us-fits s b → run us s b (fs ++ rest) ≡ run us s b fs ++ E
-unfolding run
-after-any us room us-fits rest E continues [] s b r = continues s b r
-after-any us room us-fits rest E continues (f ∷ fs) s b r =
+after-any : (us room : ℕ) (rest : List (List ℕ)) (E : List (Option HandedUp)) → ((s : State) (b : List ℕ) → Ready us room s b → run us s b rest ≡ E)
+    → (fs : List (List ℕ)) (s : State) (b : List ℕ) → Ready us room s b → run us s b (fs ++ rest) ≡ run us s b fs ++ E
+unfolding answers
+after-any us room rest E continues [] s b r = continues s b r
+after-any us room rest E continues (f ∷ fs) s b r =
     let after = stays-consistent us s b f (rw (r .0) (r .1)) in
-    let r′ : Ready us room us-fits (stepOf us s b f .answer .state) (stepOf us s b f .buffer) = (after .2 ∙ r .0, rw (← r .0) (after .1)) in
-    ap (λ (l : List (Option HandedUp)). handedUp (stepOf us s b f .answer .verdict) (stepOf us s b f .buffer) ∷ l)
-    (after-any us room us-fits rest E continues fs (stepOf us s b f .answer .state) (stepOf us s b f .buffer) r′)
+    let r′ : Ready us room (stepOf us s b f .answer .state) (stepOf us s b f .buffer) = (after .2 ∙ r .0, rw (← r .0) (after .1)) in
+    ap (λ (l : List (Option HandedUp)). upBy (stepOf us s b f) ∷ l)
+    (after-any us room rest E continues fs (stepOf us s b f .answer .state) (stepOf us s b f .buffer) r′)
+
+-- whatever is open then, no first frame is lost, so it is unlike what comes
+apart-from-all : (us room : ℕ) (ts : List Transmission) → All (Legal us room) ts → (s : State) → Apart ts s
+apart-from-all us room ts legal Fresh = tt
+apart-from-all us room ts legal (Open p) = unlike-any us room ts legal (p .words)
 
 pub never-in-vain : NeverInVain
-never-in-vain us b earlier t us-fits legal =
-    after-any us (length b) us-fits (calls us t) (expected t) (all-messages us (length b) us-fits (t .sent) (legal .all) (t .after) (legal .put-in))
-    earlier Fresh b (refl, fresh (length b))
+never-in-vain us b earlier t legal =
+    let room = length b in
+    let ts = t .sent in
+    after-any us room (calls us t) (expected t)
+    (λ s b′ r. all-messages us room ts (all-framed us room ts (legal .all)) (told-apart us room ts (legal .all)) (t .after) (legal .put-in) s b′ r
+    (apart-from-all us room ts (legal .all) s))
+    earlier Fresh b (refl, fresh room)
 
 -- frames that all arrive, with nothing put in
 abbrev sentAll : List (List ℕ) → List Sent
@@ -283,16 +146,15 @@ sent-is-framed us room t legal =
     let total = length (t .message .bytes) in
     record {
       pieces = map (λ s. s .piece) (t .frames);
-      bounded = legal .bounded;
-      cut = legal .cut;
+      bounded = legal .framed .bounded;
+      cut = legal .framed .cut;
       frames-are = ap (callsFrom e total 0) (untouched-are (t .frames)) ∙ calls-sent e total 0 (map (λ s. s .piece) (t .frames));
     }
 
 -- what is cut has a first piece
 first-piece : (bytes : List ℕ) (ps : List (List ℕ)) → Cut bytes ps → (p : List ℕ) × (rest : List (List ℕ)) × (ps ≡ p ∷ rest)
 unfolding flatten
-first-piece [] [] cut = apart (cc)
-first-piece (b ∷ bytes) [] cut = apart (let none-left = cut .1 in cc)
+first-piece bytes [] cut = absurd (starts-somewhere bytes cut)
 first-piece bytes (p ∷ ps) cut = (p, ps, refl)
 
 -- the frames of a framing as a transmission in which nothing is lost
@@ -303,27 +165,28 @@ module _ (us room : ℕ) (m : Message) (frames : List (List ℕ)) (framed : Fram
   starts : (q : List ℕ) × (rest : List (List ℕ)) × (framed .pieces ≡ q ∷ rest)
   starts = first-piece (m .bytes) (framed .pieces) (framed .cut)
 
-  transmitted : m .id < 2 ^ 32 → m .sender < 2 ^ 32 → m .status < 2 ^ 32 → length (m .bytes) ≤ room → Legal us room transmission
-  transmitted id sender status fits =
+  transmitted : Fits (envelopeFor us m) → length (m .bytes) ≤ room → Legal us room transmission
+  transmitted words fits =
       record {
-        id = id;
-        sender = sender;
-        status = status;
-        bounded = framed .bounded;
-        fits = fits;
-        cut = rw (pieces-sent (framed .pieces)) (framed .cut);
+        framed =
+            record {
+              words = words;
+              bounded = framed .bounded;
+              fits = fits;
+              cut = rw (pieces-sent (framed .pieces)) (framed .cut);
+              put-in = nothing-put-in us (framed .pieces);
+            };
         first-arrives = rw (starts .2) refl;
-        put-in = nothing-put-in us (framed .pieces);
       }
 
   called : callsFrom (envelopeFor us m) (length (m .bytes)) 0 (transmission .frames) ≡ frames
   called = calls-sent (envelopeFor us m) (length (m .bytes)) 0 (framed .pieces) ∙ sym (framed .frames-are)
 
 pub framed-is-sent : FramedIsSent
-framed-is-sent us room m frames id sender status fits framed =
+framed-is-sent us room m frames words fits framed =
     record {
       sent = sentAll (framed .pieces);
-      legal = transmitted us room m frames framed id sender status fits;
+      legal = transmitted us room m frames framed words fits;
       whole = untouched-are (sentAll (framed .pieces)) ∙ ap sentAll (pieces-sent (framed .pieces));
       calls-are = called us room m frames framed;
     }
@@ -349,7 +212,7 @@ hands up ps count len q =
     rw (q .2, fewer) (expected-sent up (q .0) (q .1))
 
 -- the writer's frames are one
-module _ (us room : ℕ) (p : Outgoing) (l : LegalOutgoing room p) where
+module _ (us room : ℕ) (p : Outgoing) (l : LegalOutgoing us room p) where
   framed : Framing (envelopeFor us (p .message)) (p .message .bytes) (framesOf us p)
   framed = writes-a-framing (envelopeFor us (p .message)) (p .message .bytes) (p .size) (p .count) (l .counts)
 
@@ -357,7 +220,7 @@ module _ (us room : ℕ) (p : Outgoing) (l : LegalOutgoing room p) where
   outgoing = transmission us room (p .message) (framesOf us p) framed
 
   legal-outgoing : Legal us room outgoing
-  legal-outgoing = transmitted us room (p .message) (framesOf us p) framed (l .id) (l .sender) (l .status) (l .fits)
+  legal-outgoing = transmitted us room (p .message) (framesOf us p) framed (l .words) (l .fits)
 
   called-outgoing : callsFrom (envelopeFor us (p .message)) (length (p .message .bytes)) 0 (outgoing .frames) ≡ framesOf us p
   called-outgoing = called us room (p .message) (framesOf us p) framed
@@ -371,29 +234,29 @@ module _ (us room : ℕ) (p : Outgoing) (l : LegalOutgoing room p) where
       (hands (some (asSent (p .message))) (framed .pieces) (p .count) many (starts us room (p .message) (framesOf us p) framed))
 
 module _ (us room : ℕ) where
-  transmissions : (ps : List Outgoing) → All (LegalOutgoing room) ps → List Transmission
+  transmissions : (ps : List Outgoing) → All (LegalOutgoing us room) ps → List Transmission
   transmissions [] ls = []
   transmissions (p ∷ ps) ls = outgoing us room p (ls .0) ∷ transmissions ps (ls .1)
 
-  all-transmitted : (ps : List Outgoing) (ls : All (LegalOutgoing room) ps) → All (Legal us room) (transmissions ps ls)
+  all-transmitted : (ps : List Outgoing) (ls : All (LegalOutgoing us room) ps) → All (Legal us room) (transmissions ps ls)
   unfolding transmissions
   all-transmitted [] ls = tt
   all-transmitted (p ∷ ps) ls = (legal-outgoing us room p (ls .0), all-transmitted ps (ls .1))
 
-  all-called : (ps : List Outgoing) (ls : All (LegalOutgoing room) ps) → callsOf us (transmissions ps ls) [] ≡ flatten (map (framesOf us) ps)
+  all-called : (ps : List Outgoing) (ls : All (LegalOutgoing us room) ps) → callsOf us (transmissions ps ls) [] ≡ flatten (map (framesOf us) ps)
   unfolding transmissions callsOf flatten
   all-called [] ls = refl
   all-called (p ∷ ps) ls = ap₂ _++_ (called-outgoing us room p (ls .0)) (all-called ps (ls .1))
 
-  all-given-up : (ps : List Outgoing) (ls : All (LegalOutgoing room) ps) → expectedOf (transmissions ps ls) [] ≡ flatten (map handsUp ps)
+  all-given-up : (ps : List Outgoing) (ls : All (LegalOutgoing us room) ps) → expectedOf (transmissions ps ls) [] ≡ flatten (map handsUp ps)
   unfolding transmissions expectedOf flatten
   all-given-up [] ls = refl
   all-given-up (p ∷ ps) ls = ap₂ _++_ (given-up us room p (ls .0)) (all-given-up ps (ls .1))
 
 pub written-is-handed-up : WrittenIsHandedUp
-written-is-handed-up us b ps us-fits ls =
+written-is-handed-up us b ps ls =
     let room = length b in
     let traffic : Traffic = record { sent = transmissions us room ps ls; after = [] } in
     ap (run us Fresh b) (sym (all-called us room ps ls))
-    ∙ demand-3 us b traffic us-fits (record { all = all-transmitted us room ps ls; put-in = tt })
+    ∙ demand-3 us b traffic (record { all = all-transmitted us room ps ls; put-in = tt })
     ∙ all-given-up us room ps ls

@@ -1,8 +1,8 @@
 -- The laws of one step: what `stepOf` gives for a frame that was put in, for Index 0, and for any later Index.
 -- Assumes nothing.
-use Prim.Native.Nat.{ℕ, suc, _+_, _-_, _≤_, _<_}
+use Prim.Native.Nat.{ℕ, suc, _+_, _≤_, _<_}
 use mathlib.Core.Bool.{Bool, true, false, cond, not, _||_}
-use mathlib.Core.Path.{_≡_, refl, ap, _∙_}
+use mathlib.Core.Path.{_≡_, refl, sym, ap, ap₂, _∙_}
 use mathlib.Core.List.{List, _++_, append-assoc}
 use borrow.Author.Tests.{eq-eqb, ne-eqb, eqb-true}
 use native.Mathlib.Omega.{arith}
@@ -11,7 +11,8 @@ use lib.ListN.{length, take, drop, length-append, length-take, length-drop}
 use lib.Seq.{take-at, drop-at}
 use Rattle.le.specs.Word.{word}
 use Rattle.le.proofs.Tests.{apart}
-use Rattle.frame.specs.Layout.{headerSize, frameMax, pieceMax, messageMax, typeVersion, headerBytes, headerOf, headerFor, frameOf}
+use Rattle.le.proofs.Comparing.{same-self, same-true}
+use Rattle.frame.specs.Layout.{headerSize, frameMax, pieceMax, messageMax, typeVersion, wordsOf, wordsFrom, headerBytes, headerOf, headerFor, frameOf}
 use Rattle.frame.specs.Reading.{parsed, dataOf}
 use Rattle.frame.specs.Statements.{Fits}
 use Rattle.frame.specs.declared.Envelope.{Envelope}
@@ -23,15 +24,14 @@ use Rattle.frame.specs.declared.read.Reason.{Reason}
 use Rattle.frame.specs.declared.read.Reason.the-variants.{FrameShort, FrameLong, WrongType, OtherReceiver}
 use Rattle.frame.proofs.Writing.{length-header}
 use Rattle.frame.proofs.Theorems.{frame-read}
-use Rattle.reassembly.specs.Step.{consistent, sameWords, refused, waiting, landed, taken, accept, begin, proceed, stepOf}
-use Rattle.reassembly.specs.Helpers.{lacksData}
+use Rattle.reassembly.specs.Step.{consistent, sameWords, refused, waiting, landed, taken, lacksData, isNext, accept, proceed, routed, received, stepOf}
 use Rattle.reassembly.specs.Traffic.{PutIn}
 use Rattle.reassembly.specs.declared.State.{State}
 use Rattle.reassembly.specs.declared.State.the-variants.{Fresh, Open}
 use Rattle.reassembly.specs.declared.Reason as R
-use Rattle.reassembly.specs.declared.Reason.the-variants.{Unread, NothingOpen, OutOfOrder}
+use Rattle.reassembly.specs.declared.Reason.the-variants.{Unread, NothingOpen, OutOfOrder, OtherWords}
 use Rattle.reassembly.specs.declared.Verdict.the-variants.{Refused}
-use Rattle.reassembly.proofs.Answers.{data-taken, begins, none-open, other-index, goes-on, unread-frame, index-zero, index-more}
+use Rattle.reassembly.proofs.Answers.{data-taken, begins, none-open, other-index, other-words, goes-on, good-state, index-zero, index-more}
 
 -- a frame of which a condition 1 to 4 holds does not parse, and of each that does not one holds
 module _ (us : ℕ) (f : List ℕ) where
@@ -68,49 +68,58 @@ module _ (us : ℕ) (f : List ℕ) where
 module _ (us : ℕ) (s : State) (b : List ℕ) (ok : consistent s (length b) ≡ true) where
   -- a frame that was put in changes nothing
   pub put-in : (f : List ℕ) → PutIn us f → (reason : Reason) × (stepOf us s b f ≡ refused (Unread reason) s b)
-  put-in f h = let r = unread us f h in (r .0, unread-frame us s b f ok (r .0) (r .1))
+  put-in f h =
+      let r = unread us f h in
+      (r .0, ap (λ (read : Parsed). received read (dataOf f) s b) (r .1) ∙ good-state (Parsed.Refused (r .0)) (dataOf f) s b ok)
 
   -- a frame of a message for us goes by its Index
   module _ (e : Envelope) (fits : Fits e) (ours : e .receiver ≡ us) (total : ℕ) (bounded : total ≤ messageMax) (p : List ℕ) (small : length p ≤ pieceMax) where
-    read : (i : ℕ) → i ≤ messageMax → parsed us (frameOf (headerFor e total i) p) ≡ Parsed.Header (headerFor e total i)
-    read i i-fits = rw (← ours) (frame-read e fits total i (omega arith) (omega arith) p small)
-
-    piece-of : (i : ℕ) → dataOf (frameOf (headerFor e total i) p) ≡ p
-    piece-of i = drop-at (headerBytes (headerFor e total i)) p headerSize (length-header (headerFor e total i))
+    read : (i : ℕ) → i ≤ messageMax → stepOf us s b (frameOf (headerFor e total i) p) ≡ routed (Parsed.Header (headerFor e total i)) p s b
+    read i i-fits =
+        let h = headerFor e total i in
+        let parses : parsed us (frameOf h p) ≡ Parsed.Header h = rw (← ours) (frame-read e fits total i (omega arith) (omega arith) p small) in
+        let piece-of : dataOf (frameOf h p) ≡ p = drop-at (headerBytes h) p headerSize (length-header h) in
+        ap₂ (λ (r : Parsed) (d : List ℕ). received r d s b) parses piece-of ∙ good-state (Parsed.Header h) p s b ok
 
     pub first : total ≤ length b → stepOf us s b (frameOf (headerFor e total 0) p) ≡ accept (headerFor e total 0 .words) 0 0 p b
-    first room =
-        let h = headerFor e total 0 in
-        index-zero us s b (frameOf h p) ok h (read 0 (omega arith)) refl
-        ∙ ap (λ d. begin (h .words) d b) (piece-of 0)
-        ∙ begins (h .words) p b bounded room
+    first room = let h = headerFor e total 0 in read 0 (omega arith) ∙ index-zero h p s b refl ∙ begins (h .words) p b bounded room
 
     pub later : (i : ℕ) → suc i ≤ messageMax
         → stepOf us s b (frameOf (headerFor e total (suc i)) p) ≡ proceed (headerFor e total (suc i)) p s b
-    later i i-fits =
-        let h = headerFor e total (suc i) in
-        index-more us s b (frameOf h p) ok h (read (suc i) i-fits) (ne-eqb (suc i) 0 (λ z. omega arith))
-        ∙ ap (λ d. proceed h d s b) (piece-of (suc i))
+    later i i-fits = let h = headerFor e total (suc i) in read (suc i) i-fits ∙ index-more h p s b (ne-eqb (suc i) 0 (λ z. omega arith))
 
 -- the Index that comes next, with the same words, is accepted
-same-self : (w : Words) → sameWords w w ≡ true
-unfolding sameWords
-same-self w = rw (eq-eqb (w .id) (w .id) refl, eq-eqb (w .sender) (w .sender) refl, eq-eqb (w .status) (w .status) refl, eq-eqb (w .total) (w .total) refl)
-
 pub in-order : (h : Header) (p b : List ℕ) (filled : ℕ) → proceed h p (waiting (h .words) (h .index) filled) b ≡ accept (h .words) (h .index) filled p b
 in-order h p b filled =
-    goes-on h p b (record { words = h .words; next = h .index; filled = filled }) (eq-eqb (h .index) (h .index) refl) (same-self (h .words))
+    goes-on h p b (record { words = h .words; next = h .index; filled = filled }) (eq-eqb (h .index) (h .index) refl) (same-self (wordsOf (h .words)))
 
--- nothing is open, or what is open waits for an Index below i
-abbrev pub Behind : ℕ → State → Type 0
-Behind i Fresh = Unit {0}
-Behind i (Open p) = p .next < i
+-- words whose lists are the same are equal
+words-equal : (v w : Words) → sameWords v w ≡ true → w ≡ v
+words-equal v w e = ap wordsFrom (sym (same-true (wordsOf v) (wordsOf w) e))
+
+-- off the track of a message with these words, at Index i: nothing is open, or what is open has other words or waits for an Index below i
+abbrev pub Off : Words → ℕ → State → Type 0
+Off w i Fresh = Unit {0}
+Off w i (Open p) = p .words ≡ w → p .next < i
 
 -- there a frame with Index i is refused, and nothing is open after it
-pub out-of-order : (h : Header) (p b : List ℕ) (s : State) → Behind (h .index) s
+pub off-track : (h : Header) (p b : List ℕ) (s : State) → Off (h .words) (h .index) s
     → (reason : R.Reason) × (proceed h p s b ≡ record { answer = record { verdict = Refused reason; state = Fresh }; buffer = b })
-out-of-order h p b Fresh behind = (NothingOpen, none-open h p b)
-out-of-order h p b (Open q) behind = (OutOfOrder, other-index h p b q (ne-eqb (h .index) (q .next) (λ z. omega arith)))
+off-track h p b Fresh off = (NothingOpen, none-open h p b)
+off-track h p b (Open q) off = by-index (isNext h q) refl
+  where
+    Dropped : Type 0
+    Dropped = (reason : R.Reason) × (proceed h p (Open q) b ≡ record { answer = record { verdict = Refused reason; state = Fresh }; buffer = b })
+
+    by-words : isNext h q ≡ true → (same : Bool) → sameWords (h .words) (q .words) ≡ same → Dropped
+    by-words i true w =
+        let behind = off (words-equal (h .words) (q .words) w) in
+        absurd (omega (arith, eqb-true (h .index) (q .next) i))
+    by-words i false w = (OtherWords, other-words h p b q i w)
+
+    by-index : (next : Bool) → isNext h q ≡ next → Dropped
+    by-index true i = by-words i _ refl
+    by-index false i = (OutOfOrder, other-index h p b q i)
 
 -- data that is there, and not more than is missing, is taken
 pub fitting : (w : Words) (i filled : ℕ) (p b : List ℕ) → filled + length p ≤ w .total → (length p ≡ 0 → w .total ≡ 0)

@@ -1,24 +1,25 @@
--- What is proved of whole runs. The proofs are in `proofs/Theorem.antt` and `proofs/Corollaries.antt`, under the names given here.
+-- What is proved of steps and of whole runs. The proofs are in `proofs/Theorem.antt`, `proofs/Outcome.antt` and `proofs/Corollaries.antt`, under the names
+-- given here.
 -- Assumes nothing.
-use Prim.Native.Nat.{ℕ, _-_, _^_, _≤_, _<_}
+use Prim.Native.Nat.{ℕ, _-_, _≤_}
 use mathlib.Core.Bool.{true}
 use mathlib.Core.Path.{_≡_}
 use mathlib.Core.List.{List, [], _∷_, _++_, map, flatten}
 use mathlib.Core.Option.{Option, none, some}
-use lib.ListN.{length, replicate}
+use lib.ListN.{length, take, replicate}
 use Rattle.frame.specs.Framing.{All, Framing}
 use Rattle.frame.specs.Reading as Reading
 use Rattle.frame.specs.Reading.{parsed}
-use Rattle.frame.specs.Statements.{countUp}
+use Rattle.frame.specs.Statements.{Fits, countUp}
 use Rattle.frame.specs.Writing.{counted, frameAt}
 use Rattle.frame.specs.declared.read.Parsed.the-variants as Parsed
 use Rattle.frame.specs.declared.read.Reason.{Reason as ReadReason}
 use Rattle.frame.specs.declared.write.Counted.the-variants.{Frames}
 use Rattle.reassembly.specs.Step.{numberOf, consistent, stepOf}
-use Rattle.reassembly.specs.Run.{HandedUp, run, messages, verdicts}
-use Rattle.reassembly.specs.Traffic.{Message, Sent, Transmission, Traffic, PutIn, Legal, LegalTraffic, envelopeFor, callsFrom, calls, asSent, arrived, expected}
+use Rattle.reassembly.specs.Run.{HandedUp, verdicts, upBy, run, messages}
+use Rattle.reassembly.specs.Traffic.{Message, Sent, Transmission, Traffic, PutIn, Legal, LegalTraffic, ApartTraffic, envelopeFor, callsFrom, calls, asSent, arrived, expected}
 use Rattle.reassembly.specs.declared.State.{State}
-use Rattle.reassembly.specs.declared.State.the-variants.{Fresh}
+use Rattle.reassembly.specs.declared.State.the-variants.{Fresh, Open}
 use Rattle.reassembly.specs.declared.Reason.{Reason}
 use Rattle.reassembly.specs.declared.Reason.the-variants.{BadState}
 use Rattle.reassembly.specs.declared.Verdict.{Verdict}
@@ -37,12 +38,19 @@ use Rattle.reassembly.specs.declared.Verdict.the-variants.{Refused}
 --                             last one left them." `stepOf` is what `reassembly::step` is proved to answer and to leave
 --     ≡ expected              "Then, for every such list of calls, refused ones included, what is handed up is exactly the messages that lost no frame, each
 --                             once, in order, with bytes and carried words as sent.": both lists have one entry a call
--- That `us` and the messages' words are of 32 bits is what each `u32` is.
+--     words                   that `us` and the messages' words are of 32 bits is what each `u32` is
 abbrev pub Demand3 : Type 0
 Demand3 =
     (us : ℕ) (buffer : List ℕ) (traffic : Traffic)
-    → us < 2 ^ 32
     → LegalTraffic us (length buffer) traffic
+    → run us Fresh buffer (calls us traffic) ≡ expected traffic
+
+-- `any-loss`. The same with any frame taken out, those with Index 0 too, of messages that are told apart. `demand-3` is the instance in which no Index 0 frame
+-- is lost, so that there is nothing to tell apart.
+abbrev pub AnyLoss : Type 0
+AnyLoss =
+    (us : ℕ) (buffer : List ℕ) (traffic : Traffic)
+    → ApartTraffic us (length buffer) traffic
     → run us Fresh buffer (calls us traffic) ≡ expected traffic
 
 -- `exactly-these`. Demand 3's last sentence by itself: "what is handed up is exactly the messages that lost no frame, each once, in order, with bytes and
@@ -50,7 +58,6 @@ Demand3 =
 abbrev pub ExactlyThese : Type 0
 ExactlyThese =
     (us : ℕ) (buffer : List ℕ) (traffic : Traffic)
-    → us < 2 ^ 32
     → LegalTraffic us (length buffer) traffic
     → messages (run us Fresh buffer (calls us traffic)) ≡ arrived (traffic .sent)
 
@@ -86,9 +93,7 @@ pub record SentAs (us room : ℕ) (m : Message) (frames : List (List ℕ)) : Typ
 abbrev pub FramedIsSent : Type 0
 FramedIsSent =
     (us room : ℕ) (m : Message) (frames : List (List ℕ))
-    → m .id < 2 ^ 32
-    → m .sender < 2 ^ 32
-    → m .status < 2 ^ 32
+    → Fits (envelopeFor us m)
     → length (m .bytes) ≤ room
     → Framing (envelopeFor us m) (m .bytes) frames
     → SentAs us room m frames
@@ -98,7 +103,6 @@ FramedIsSent =
 abbrev pub NeverInVain : Type 0
 NeverInVain =
     (us : ℕ) (buffer : List ℕ) (earlier : List (List ℕ)) (traffic : Traffic)
-    → us < 2 ^ 32
     → LegalTraffic us (length buffer) traffic
     → run us Fresh buffer (earlier ++ calls us traffic) ≡ run us Fresh buffer earlier ++ expected traffic
 
@@ -108,10 +112,8 @@ pub record Outgoing : Type 0 where
   pub size : ℕ
   pub count : ℕ
 
-pub record LegalOutgoing (room : ℕ) (p : Outgoing) : Type 0 where
-  pub id : p .message .id < 2 ^ 32
-  pub sender : p .message .sender < 2 ^ 32
-  pub status : p .message .status < 2 ^ 32
+pub record LegalOutgoing (us room : ℕ) (p : Outgoing) : Type 0 where
+  pub words : Fits (envelopeFor us (p .message))
   pub fits : length (p .message .bytes) ≤ room
   pub counts : counted (length (p .message .bytes)) (p .size) ≡ Frames (p .count)
 
@@ -127,8 +129,7 @@ handsUp p = replicate (p .count - 1) none ++ (some (asSent (p .message)) ∷ [])
 abbrev pub WrittenIsHandedUp : Type 0
 WrittenIsHandedUp =
     (us : ℕ) (buffer : List ℕ) (outgoing : List Outgoing)
-    → us < 2 ^ 32
-    → All (LegalOutgoing (length buffer)) outgoing
+    → All (LegalOutgoing us (length buffer)) outgoing
     → run us Fresh buffer (flatten (map (framesOf us) outgoing)) ≡ flatten (map handsUp outgoing)
 
 -- not 11
@@ -160,3 +161,21 @@ RefusalLeaves =
     → (numberOf reason ≤ 4 → stepOf us state buffer frame .answer .state ≡ state)
     × (5 ≤ numberOf reason → stepOf us state buffer frame .answer .state ≡ Fresh)
     × (stepOf us state buffer frame .buffer ≡ buffer)
+
+-- how many of the buffer's bytes belong to what is open
+abbrev pub filledOf : State → ℕ
+filledOf Fresh = 0
+filledOf (Open p) = p .filled
+
+-- two buffers of one length that hold the same of what is open
+abbrev pub Agree : State → List ℕ → List ℕ → Type 0
+Agree state b c = (length b ≡ length c) × (take (filledOf state) b ≡ take (filledOf state) c)
+
+-- `step-agrees`. Only what is filled counts: over two buffers that agree on it a call answers alike and hands up the same, and they agree again after it.
+abbrev pub StepAgrees : Type 0
+StepAgrees =
+    (us : ℕ) (state : State) (b c frame : List ℕ)
+    → Agree state b c
+    → (stepOf us state b frame .answer ≡ stepOf us state c frame .answer)
+    × (upBy (stepOf us state b frame) ≡ upBy (stepOf us state c frame))
+    × Agree (stepOf us state b frame .answer .state) (stepOf us state b frame .buffer) (stepOf us state c frame .buffer)

@@ -5,7 +5,8 @@ use mathlib.Core.Bool.{Bool, true, cond, not, _&&_, _||_}
 use mathlib.Core.List.{List, _++_}
 use lib.Dec.{ltb, leb, eqb}
 use lib.ListN.{length, take, drop}
-use Rattle.frame.specs.Layout.{messageMax}
+use Rattle.le.specs.Compare.{same}
+use Rattle.frame.specs.Layout.{messageMax, wordsOf}
 use Rattle.frame.specs.Reading as Reading
 use Rattle.frame.specs.Reading.{parsed, dataOf}
 use Rattle.frame.specs.declared.Header.{Header}
@@ -42,9 +43,9 @@ consistent (Open p) room =
     && (leb (p .words .total) messageMax
     && leb (p .words .total) room)))
 
--- the four carried words are the same
-unfoldable pub sameWords : Words → Words → Bool
-sameWords v w = eqb (v .id) (w .id) && (eqb (v .sender) (w .sender) && (eqb (v .status) (w .status) && eqb (v .total) (w .total)))
+-- the carried words are the same
+abbrev pub sameWords : Words → Words → Bool
+sameWords v w = same (wordsOf v) (wordsOf w)
 
 -- one call: its answer, and the buffer after it
 pub record Stepped : Type 0 where
@@ -89,17 +90,28 @@ wanting words index filled buffer = record { answer = record { verdict = More; s
 abbrev pub taken : Words → ℕ → ℕ → List ℕ → Stepped
 taken words index filled buffer = cond (eqb filled (words .total)) (delivered words buffer) (wanting words index filled buffer)
 
+-- 8: "no data though total is not 0", 9: "more data than is still missing", of a piece of that size
+abbrev pub lacksData : ℕ → ℕ → Bool
+lacksData size total = eqb size 0 && not (eqb total 0)
+
+abbrev pub exceeds : ℕ → ℕ → Bool
+exceeds size missing = ltb missing size
+
 -- the data of the frame with this Index, where so many bytes are filled: 8, 9. Where they are given, nothing is open any more
 unfoldable pub accept : Words → ℕ → ℕ → List ℕ → List ℕ → Stepped
 accept words index filled piece buffer =
-    cond (eqb (length piece) 0 && not (eqb (words .total) 0)) (refused NoData Fresh buffer)
-    (cond (ltb (words .total - filled) (length piece)) (refused TooMuchData Fresh buffer)
+    cond (lacksData (length piece) (words .total)) (refused NoData Fresh buffer)
+    (cond (exceeds (length piece) (words .total - filled)) (refused TooMuchData Fresh buffer)
     (taken words index (filled + length piece) (landed filled piece buffer)))
+
+-- 10: "total over 4,096 or over the buffer"
+abbrev pub tooLong : ℕ → ℕ → Bool
+tooLong total room = ltb messageMax total || ltb room total
 
 -- "An Index 0 frame .. always begins anew, with nothing filled": 10, then as above
 unfoldable pub begin : Words → List ℕ → List ℕ → Stepped
 begin words piece buffer =
-    cond (ltb messageMax (words .total) || ltb (length buffer) (words .total)) (refused MessageLong Fresh buffer)
+    cond (tooLong (words .total) (length buffer)) (refused MessageLong Fresh buffer)
     (accept words 0 0 piece buffer)
 
 -- the Index is the one that comes next
@@ -118,12 +130,16 @@ abbrev pub isFirst : Header → Bool
 isFirst h = eqb (h .index) 0
 
 -- 1 to 4, then by the Index
-unfoldable pub received : Parsed → List ℕ → State → List ℕ → Stepped
-received (Parsed.Refused reason) piece state buffer = refused (Unread reason) state buffer
-received (Parsed.Header h) piece state buffer = cond (isFirst h) (begin (h .words) piece buffer) (proceed h piece state buffer)
+abbrev pub routed : Parsed → List ℕ → State → List ℕ → Stepped
+routed (Parsed.Refused reason) piece state buffer = refused (Unread reason) state buffer
+routed (Parsed.Header h) piece state buffer = cond (isFirst h) (begin (h .words) piece buffer) (proceed h piece state buffer)
 
--- one call, with our Receiver ID, the state and the buffer as they are handed in, and the frame: 11 first
-unfoldable pub stepOf : ℕ → State → List ℕ → List ℕ → Stepped
-stepOf us state buffer frame =
+-- what the reader answers of a frame, and the frame's data, with the state and the buffer as they are handed in: 11 first
+unfoldable pub received : Parsed → List ℕ → State → List ℕ → Stepped
+received read piece state buffer =
     cond (not (consistent state (length buffer))) (refused BadState state buffer)
-    (received (parsed us frame) (dataOf frame) state buffer)
+    (routed read piece state buffer)
+
+-- one call, with our Receiver ID, the state and the buffer as they are handed in, and the frame
+abbrev pub stepOf : ℕ → State → List ℕ → List ℕ → Stepped
+stepOf us state buffer frame = received (parsed us frame) (dataOf frame) state buffer

@@ -1,8 +1,8 @@
 -- Demand 3's traffic: "any list of messages for us .. framed by the rules and sent one after another", with frames taken out "except those with
 -- Index 0", and frames put in "anywhere" of which a condition 1 to 4 holds.
 -- Assumes nothing.
-use Prim.Native.Nat.{ℕ, suc, _^_, _≤_, _<_}
-use mathlib.Core.Bool.{Bool, true, cond, not, _&&_, _||_}
+use Prim.Native.Nat.{ℕ, suc, _≤_}
+use mathlib.Core.Bool.{Bool, true, false, cond, not, _&&_, _||_}
 use mathlib.Core.Path.{_≡_}
 use mathlib.Core.List.{List, [], _∷_, _++_, map, filterMap}
 use mathlib.Core.Option.{Option, none, some}
@@ -11,7 +11,9 @@ use lib.ListN.{length}
 use Rattle.le.specs.Word.{word}
 use Rattle.frame.specs.Layout.{headerSize, frameMax, messageMax, typeVersion, headerOf, headerFor, frameOf}
 use Rattle.frame.specs.Framing.{All, Cut}
+use Rattle.frame.specs.Statements.{Fits}
 use Rattle.frame.specs.declared.Envelope.{Envelope}
+use Rattle.frame.specs.declared.Words.{Words}
 use Rattle.reassembly.specs.Run.{HandedUp}
 
 -- a message: the three words that are free, and its bytes
@@ -46,28 +48,53 @@ PutIn us f =
     || not (eqb (headerOf f .receiver) us)))
     ≡ true
 
+abbrev pub envelopeFor : ℕ → Message → Envelope
+envelopeFor us m = record { id = m .id; sender = m .sender; status = m .status; receiver = us }
+
+-- a message "of at most 4,096 bytes and no longer than that buffer", its words of 32 bits, "framed by the rules", and what was put in between
+pub record Framed (us room : ℕ) (t : Transmission) : Type 0 where
+  pub words : Fits (envelopeFor us (t .message))
+  pub bounded : length (t .message .bytes) ≤ messageMax
+  pub fits : length (t .message .bytes) ≤ room
+  pub cut : Cut (t .message .bytes) (map (λ s. s .piece) (t .frames))
+  pub put-in : All (λ s. All (PutIn us) (s .before)) (t .frames)
+
 -- "Take out any frames except those with Index 0": the first arrives
 abbrev pub FirstArrives : List Sent → Type 0
 FirstArrives [] = ⊥
 FirstArrives (s ∷ ss) = s .arrives ≡ true
 
--- a message "of at most 4,096 bytes and no longer than that buffer", its words of 32 bits, framed by the rules
 pub record Legal (us room : ℕ) (t : Transmission) : Type 0 where
-  pub id : t .message .id < 2 ^ 32
-  pub sender : t .message .sender < 2 ^ 32
-  pub status : t .message .status < 2 ^ 32
-  pub bounded : length (t .message .bytes) ≤ messageMax
-  pub fits : length (t .message .bytes) ≤ room
-  pub cut : Cut (t .message .bytes) (map (λ s. s .piece) (t .frames))
+  pub framed : Framed us room t
   pub first-arrives : FirstArrives (t .frames)
-  pub put-in : All (λ s. All (PutIn us) (s .before)) (t .frames)
 
 pub record LegalTraffic (us room : ℕ) (t : Traffic) : Type 0 where
   pub all : All (Legal us room) (t .sent)
   pub put-in : All (PutIn us) (t .after)
 
-abbrev pub envelopeFor : ℕ → Message → Envelope
-envelopeFor us m = record { id = m .id; sender = m .sender; status = m .status; receiver = us }
+-- the carried words of a message as it is sent
+abbrev pub sentWords : Message → Words
+sentWords m = record { id = m .id; sender = m .sender; status = m .status; total = length (m .bytes) }
+
+abbrev pub FirstLost : List Sent → Type 0
+FirstLost [] = ⊥
+FirstLost (s ∷ ss) = s .arrives ≡ false
+
+-- no message up to the next one whose first frame arrives can be taken for one with these words
+abbrev pub Unlike : Words → List Transmission → Type 0
+Unlike w [] = Unit {0}
+Unlike w (t ∷ ts) = FirstLost (t .frames) → (w ≡ sentWords (t .message) → ⊥) × Unlike w ts
+
+-- messages that are told apart by their carried words wherever an Index 0 frame that is lost leaves nothing else to tell them by
+abbrev pub ToldApart : List Transmission → Type 0
+ToldApart [] = Unit {0}
+ToldApart (t ∷ ts) = Unlike (sentWords (t .message)) ts × ToldApart ts
+
+-- traffic of which any frame may be taken out
+pub record ApartTraffic (us room : ℕ) (t : Traffic) : Type 0 where
+  pub all : All (Framed us room) (t .sent)
+  pub told-apart : ToldApart (t .sent)
+  pub put-in : All (PutIn us) (t .after)
 
 unfoldable pub callsFrom : Envelope → ℕ → ℕ → List Sent → List (List ℕ)
 callsFrom e total index [] = []
@@ -89,12 +116,7 @@ allArrive [] = true
 allArrive (s ∷ ss) = s .arrives && allArrive ss
 
 abbrev pub asSent : Message → HandedUp
-asSent m =
-    record {
-      words = record { id = m .id; sender = m .sender; status = m .status; total = length (m .bytes) };
-      length = length (m .bytes);
-      bytes = m .bytes;
-    }
+asSent m = record { words = sentWords m; length = length (m .bytes); bytes = m .bytes }
 
 abbrev pub nothing : List (List ℕ) → List (Option HandedUp)
 nothing frames = map (λ f. none) frames

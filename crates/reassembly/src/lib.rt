@@ -8,8 +8,8 @@ ghost use mathlib.Core.Bool.{true};
 ghost use Prim.Native.Nat.{_≤_, _<_};
 ghost use lib.ListN.{length};
 ghost use Rattle.frame.specs.Layout.{messageMax};
-ghost use Rattle.reassembly.specs.Step.{numberOf, consistent, sameWords, stateAfter, refusal, waiting, accept, begin, proceed, stepOf};
-ghost use Rattle.reassembly.specs.Helpers.{lacksData, unreadOf};
+ghost use Rattle.frame.specs.declared.read.Parsed.the-variants as Read;
+ghost use Rattle.reassembly.specs.Step.{numberOf, consistent, sameWords, stateAfter, refusal, waiting, lacksData, accept, begin, proceed, routed, received, stepOf};
 
 // A message that is open: its carried words, the Index that comes next, and how many of its bytes stand
 // in the buffer.
@@ -139,7 +139,7 @@ fn is_consistent(state: State, room: usize) -> bool
     total <= room
 }
 
-// Whether the four carried words are the same.
+// Whether the carried words are the same.
 fn same_words(v: Words, w: Words) -> bool
     ensures { λ r. ⌜ r ≡ sameWords v w ⌝ }
 {
@@ -225,32 +225,39 @@ fn continue_message(h: Header, piece: &[u8], state: State, buf: &mut [u8]) -> An
     accept_data(words, open.next, open.filled, piece, buf)
 }
 
-// Why a frame did not parse. It is called only for one that did not; `let .. else` does not say so.
-fn unread(parsed: Parsed) -> Reason
-    ensures { λ r. ⌜ r ≡ unreadOf parsed ⌝ }
+// A frame that parsed, by its Index.
+fn route(h: Header, piece: &[u8], state: State, buf: &mut [u8]) -> Answer
+    requires { ⌜ consistent state (length (now buf)) ≡ true ⌝ }
+    ensures { λ r. ⌜ r ≡ routed (Read.Header h) (now (piece .entry)) state (now (buf .entry)) .answer ⌝ }
+    ensures { λ _. ⌜ now (buf .exit) ≡ routed (Read.Header h) (now (piece .entry)) state (now (buf .entry)) .buffer ⌝ }
 {
-    match parsed {
-        Parsed::Refused(reason) => Reason::Unread(reason),
-        Parsed::Header(_) => Reason::Unread(frame::read::Reason::FrameShort),
-    }
-}
-
-// One call: a frame, for the receiver `us`. Any state is answered; one that is neither fresh nor consistent
-// gets 11. Accepted data lands in the buffer from the first unfilled byte on; a refusal changes no byte.
-pub fn step(state: State, frame: &[u8], us: u32, buf: &mut [u8]) -> Answer
-    ensures { λ r. ⌜ r ≡ stepOf us state (now (buf .entry)) (now (frame .entry)) .answer ⌝ }
-    ensures { λ _. ⌜ now (buf .exit) ≡ stepOf us state (now (buf .entry)) (now (frame .entry)) .buffer ⌝ }
-{
-    if !is_consistent(state, buf.len()) {
-        return refuse(Reason::BadState, state);
-    }
-    let parsed = frame::read::parse(frame, us);
-    let Parsed::Header(h) = parsed else {
-        return refuse(unread(parsed), state);
-    };
-    let piece = frame::read::data(frame);
     if h.index == 0 {
         return begin_message(h.words, piece, buf);
     }
     continue_message(h, piece, state, buf)
+}
+
+// What the reader answers of a frame, and the frame's data. Any state is answered; one that is neither fresh
+// nor consistent gets 11. Accepted data lands in the buffer from the first unfilled byte on; a refusal changes
+// no byte.
+pub fn receive(read: Parsed, piece: &[u8], state: State, buf: &mut [u8]) -> Answer
+    ensures { λ r. ⌜ r ≡ received read (now (piece .entry)) state (now (buf .entry)) .answer ⌝ }
+    ensures { λ _. ⌜ now (buf .exit) ≡ received read (now (piece .entry)) state (now (buf .entry)) .buffer ⌝ }
+{
+    if !is_consistent(state, buf.len()) {
+        return refuse(Reason::BadState, state);
+    }
+    match read {
+        Parsed::Refused(reason) => refuse(Reason::Unread(reason), state),
+        Parsed::Header(h) => route(h, piece, state, buf),
+    }
+}
+
+// One call: a frame, for the receiver `us`.
+pub fn step(state: State, frame: &[u8], us: u32, buf: &mut [u8]) -> Answer
+    ensures { λ r. ⌜ r ≡ stepOf us state (now (buf .entry)) (now (frame .entry)) .answer ⌝ }
+    ensures { λ _. ⌜ now (buf .exit) ≡ stepOf us state (now (buf .entry)) (now (frame .entry)) .buffer ⌝ }
+{
+    let read = frame::read::parse(frame, us);
+    receive(read, frame::read::data(frame), state, buf)
 }

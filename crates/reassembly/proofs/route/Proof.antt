@@ -1,0 +1,46 @@
+-- `reassembly::route` meets its contract: by the test on the Index.
+-- Assumes nothing.
+use borrow.Author.Tests.{eq-eqb, ne-eqb}
+use Rattle.frame.specs.declared.read.Parsed.the-variants.{Header}
+use Rattle.reassembly.specs.Step.{routed}
+use Rattle.reassembly.proofs.Answers.{as-in, index-zero, index-more}
+use borrow.Author.Needs.{needs}
+use Rattle.reassembly.proofs.route.Statement.{statement}
+use Rattle.reassembly.proofs.route.Tie as tie
+
+begin-message-requires : tie.Need-begin-message-requires
+begin-message-requires c κs = search needs
+
+same-length : tie.Need-same-length
+same-length c = search needs
+
+returns : tie.Need-returns
+returns c =
+    let args = c .before .before .before .before .before .before .before .before .args in
+    let zero = index-zero (args .h) (args .piece .now) (args .state) (args .buf .now) (eq-eqb _ _ (c .before .before .before .before .if1 .taken)) in
+    let begun = c .before .before .begin-message .ensures in
+    as-in (routed (Header (args .h)) (args .piece .now) (args .state) (args .buf .now)) _ _ _ zero (begun .0) (begun .1)
+
+continue-message-requires : tie.Need-continue-message-requires
+continue-message-requires c κs = search needs
+
+same-length-2 : tie.Need-same-length-2
+same-length-2 c = search needs
+
+returns-2 : tie.Need-returns-2
+returns-2 c =
+    let args = c .before .before .before .before .before .before .before .before .args in
+    let more = index-more (args .h) (args .piece .now) (args .state) (args .buf .now) (ne-eqb _ _ (c .before .before .before .before .if1 .left)) in
+    let gone-on = c .before .before .continue-message .ensures in
+    as-in (routed (Header (args .h)) (args .piece .now) (args .state) (args .buf .now)) _ _ _ more (gone-on .0) (gone-on .1)
+
+pub route-spec : {M : Type 1} → statement M
+route-spec =
+    tie.close
+    (tie.spec
+    begin-message-requires
+    same-length
+    returns
+    continue-message-requires
+    same-length-2
+    returns-2)
