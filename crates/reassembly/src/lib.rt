@@ -259,5 +259,6 @@ pub fn step(state: State, frame: &[u8], us: u32, buf: &mut [u8]) -> Answer
     ensures { λ _. ⌜ now (buf .exit) ≡ stepOf us state (now (buf .entry)) (now (frame .entry)) .buffer ⌝ }
 {
     let read = frame::read::parse(frame, us);
-    receive(read, frame::read::data(frame), state, buf)
+    let piece = frame::read::data(frame);
+    receive(read, piece, state, buf)
 }
