@@ -1,8 +1,8 @@
 -- The laws of the definitions that make up a step: one for each answer, with what leads there.
 -- Assumes nothing.
 use Prim.Native.Nat.{ℕ, _+_, _-_, _≤_, _<_}
-use mathlib.Core.Bool.{true, false, not}
-use mathlib.Core.Path.{_≡_, refl}
+use mathlib.Core.Bool.{true, false, not, _&&_}
+use mathlib.Core.Path.{_≡_, refl, _∙_}
 use mathlib.Core.List.{List}
 use borrow.Author.Tests.{lt-ltb, le-ltb, lt-leb, le-leb, eq-eqb, ne-eqb, leb-true, ltb-true}
 use lib.Dec.{leb, ltb}
@@ -30,41 +30,32 @@ pub fresh : (room : ℕ) → consistent Fresh room ≡ true
 unfolding consistent
 fresh room = refl
 
-module _ (p : Progress) (room : ℕ) where
-  pub no-next : p .next < 1 → consistent (Open p) room ≡ false
+module _ (s : State) (p : Progress) (room : ℕ) (is-open : s ≡ Open p) where
+  pub no-next : p .next < 1 → consistent s room ≡ false
   unfolding consistent
-  no-next h = rw (lt-leb 1 (p .next) h)
+  no-next h = rw (is-open, lt-leb 1 (p .next) h)
 
   module _ (next : 1 ≤ p .next) where
-    pub next-ahead : p .filled < p .next → consistent (Open p) room ≡ false
+    pub next-ahead : p .filled < p .next → consistent s room ≡ false
     unfolding consistent
-    next-ahead h = rw (le-leb 1 (p .next) next, lt-leb (p .next) (p .filled) h)
+    next-ahead h = rw (is-open, le-leb 1 (p .next) next, lt-leb (p .next) (p .filled) h)
 
     module _ (order : p .next ≤ p .filled) where
-      pub all-filled : p .words .total ≤ p .filled → consistent (Open p) room ≡ false
+      pub all-filled : p .words .total ≤ p .filled → consistent s room ≡ false
       unfolding consistent
-      all-filled h = rw (le-leb 1 (p .next) next, le-leb (p .next) (p .filled) order, le-ltb (p .filled) (p .words .total) h)
+      all-filled h = rw (is-open, le-leb 1 (p .next) next, le-leb (p .next) (p .filled) order, le-ltb (p .filled) (p .words .total) h)
+
+      -- the message's length decides
+      pub by-length : p .filled < p .words .total → consistent s room ≡ leb (p .words .total) messageMax && leb (p .words .total) room
+      unfolding consistent
+      by-length less = rw (is-open, le-leb 1 (p .next) next, le-leb (p .next) (p .filled) order, lt-ltb (p .filled) (p .words .total) less)
 
       module _ (less : p .filled < p .words .total) where
-        pub over-long : messageMax < p .words .total → consistent (Open p) room ≡ false
-        unfolding consistent
-        over-long h =
-            rw (
-              le-leb 1 (p .next) next,
-              le-leb (p .next) (p .filled) order,
-              lt-ltb (p .filled) (p .words .total) less,
-              lt-leb (p .words .total) messageMax h,
-            )
+        pub over-long : messageMax < p .words .total → consistent s room ≡ false
+        over-long h = by-length less ∙ rw (lt-leb (p .words .total) messageMax h)
 
-        pub by-room : p .words .total ≤ messageMax → consistent (Open p) room ≡ leb (p .words .total) room
-        unfolding consistent
-        by-room h =
-            rw (
-              le-leb 1 (p .next) next,
-              le-leb (p .next) (p .filled) order,
-              lt-ltb (p .filled) (p .words .total) less,
-              le-leb (p .words .total) messageMax h,
-            )
+        pub by-room : p .words .total ≤ messageMax → consistent s room ≡ leb (p .words .total) room
+        by-room h = by-length less ∙ rw (le-leb (p .words .total) messageMax h)
 
 -- what is known of a consistent open state
 pub record Consistent (p : Progress) (room : ℕ) : Type 0 where
@@ -125,23 +116,23 @@ module _ (w : Words) (p b : List ℕ) where
   begins h l = rw (le-ltb messageMax (w .total) h, le-ltb (length b) (w .total) l)
 
 -- 5, 6, 7, and a message that goes on
-module _ (h : Header) (p b : List ℕ) where
-  pub none-open : proceed h p Fresh b ≡ refused NothingOpen Fresh b
+module _ (h : Header) (p : List ℕ) (s : State) (b : List ℕ) where
+  pub none-open : s ≡ Fresh → proceed h p s b ≡ refused NothingOpen s b
   unfolding proceed
-  none-open = refl
+  none-open e = rw e
 
-  module _ (q : Progress) where
-    pub other-index : isNext h q ≡ false → proceed h p (Open q) b ≡ refused OutOfOrder (Open q) b
+  module _ (q : Progress) (is-open : s ≡ Open q) where
+    pub other-index : isNext h q ≡ false → proceed h p s b ≡ refused OutOfOrder s b
     unfolding proceed
-    other-index i = rw i
+    other-index i = rw (is-open, i)
 
-    pub other-words : isNext h q ≡ true → sameWords (h .words) (q .words) ≡ false → proceed h p (Open q) b ≡ refused OtherWords (Open q) b
+    pub other-words : isNext h q ≡ true → sameWords (h .words) (q .words) ≡ false → proceed h p s b ≡ refused OtherWords s b
     unfolding proceed
-    other-words i w = rw (i, w)
+    other-words i w = rw (is-open, i, w)
 
-    pub goes-on : isNext h q ≡ true → sameWords (h .words) (q .words) ≡ true → proceed h p (Open q) b ≡ accept (q .words) (q .next) (q .filled) p b
+    pub goes-on : isNext h q ≡ true → sameWords (h .words) (q .words) ≡ true → proceed h p s b ≡ accept (q .words) (q .next) (q .filled) p b
     unfolding proceed
-    goes-on i w = rw (i, w)
+    goes-on i w = rw (is-open, i, w)
 
 -- by the Index
 module _ (h : Header) (p : List ℕ) (s : State) (b : List ℕ) where
@@ -157,6 +148,6 @@ module _ (r : Parsed) (p : List ℕ) (s : State) (b : List ℕ) where
   unfolding received
   bad-state h = rw h
 
-  pub good-state : consistent s (length b) ≡ true → received r p s b ≡ routed r p s b
+  pub good-state : consistent s (length b) ≡ true → (q : Parsed) → r ≡ q → received r p s b ≡ routed q p s b
   unfolding received
-  good-state h = rw h
+  good-state h q e = rw (h, e)

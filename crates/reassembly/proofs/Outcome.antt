@@ -21,7 +21,7 @@ use Rattle.frame.specs.declared.read.Parsed.{Parsed}
 use Rattle.frame.specs.declared.read.Parsed.the-variants as Parsed
 use Rattle.frame.specs.declared.read.Reason.{Reason as ReadReason}
 use Rattle.frame.specs.declared.read.Reason.the-variants.{FrameShort, FrameLong, WrongType, OtherReceiver}
-use Rattle.reassembly.specs.Step.{Stepped, numberOf, consistent, sameWords, stateAfter, refused, waiting, landed, delivered, wanting, lacksData, isNext, isFirst, accept, begin, proceed, routed, received, stepOf}
+use Rattle.reassembly.specs.Step.{Stepped, numberOf, consistent, sameWords, stateAfter, refused, waiting, landed, delivered, wanting, lacksData, isNext, isFirst, accept, begin, proceed, routed, stepOf}
 use Rattle.reassembly.specs.Run.{upBy}
 use Rattle.reassembly.specs.Statements.{NotBad, StaysConsistent, RefusalLeaves, Agree, StepAgrees}
 use Rattle.reassembly.specs.declared.Progress.{Progress}
@@ -72,7 +72,7 @@ module _ (us : ℕ) (s : State) (room : ℕ) (f : List ℕ) where
           let h = eqb-false (filled + length p) (w .total) e in
           let some-p : 0 < length p = pos-of-ne-zero (λ z. h (let none-at-all = lacks-none (length p) (w .total) present z in omega arith)) in
           let q : Progress = record { words = w; next = suc i; filled = filled + length p } in
-          let again = by-room q room (omega arith) (omega arith) (omega arith) bounded ∙ le-leb (w .total) room held in
+          let again = by-room (Open q) q room refl (omega arith) (omega arith) (omega arith) bounded ∙ le-leb (w .total) room held in
           wants w i filled source (omega arith) again
           (λ b len. steps b len ∙ data-taken w i filled p b present fits ∙ not-whole w i (filled + length p) (landed filled p b) h)
 
@@ -106,25 +106,25 @@ module _ (us : ℕ) (s : State) (room : ℕ) (f : List ℕ) where
 
 -- 5, 6, 7, and a message that goes on
 proceeding : (us : ℕ) (s : State) (room : ℕ) (f : List ℕ) (h : Header) → consistent s room ≡ true → Steps us s room f (proceed h (dataOf f) s) → Outcome us s room f
-proceeding us Fresh room f h ok steps = refuses NothingOpen (λ q. apart (cc)) (λ b len. steps b len ∙ none-open h (dataOf f) b)
+proceeding us Fresh room f h ok steps = refuses NothingOpen (λ q. apart (cc)) (λ b len. steps b len ∙ none-open h (dataOf f) Fresh b refl)
 proceeding us (Open q) room f h ok steps = by-index (isNext h q) refl
   where
     by-words : isNext h q ≡ true → (same : Bool) → sameWords (h .words) (q .words) ≡ same → Outcome us (Open q) room f
     by-words i true e =
         let known = consistent-open q room ok in
         accepting us (Open q) room f (q .words) (q .next) (q .filled) (continued q) (known .order) (omega (arith, known .less)) (known .bounded) (known .held)
-        (λ b len. steps b len ∙ goes-on h (dataOf f) b q i e)
-    by-words i false e = refuses OtherWords (λ z. apart (cc)) (λ b len. steps b len ∙ other-words h (dataOf f) b q i e)
+        (λ b len. steps b len ∙ goes-on h (dataOf f) (Open q) b q refl i e)
+    by-words i false e = refuses OtherWords (λ z. apart (cc)) (λ b len. steps b len ∙ other-words h (dataOf f) (Open q) b q refl i e)
 
     by-index : (next : Bool) → isNext h q ≡ next → Outcome us (Open q) room f
     by-index true e = by-words e _ refl
-    by-index false e = refuses OutOfOrder (λ z. apart (cc)) (λ b len. steps b len ∙ other-index h (dataOf f) b q e)
+    by-index false e = refuses OutOfOrder (λ z. apart (cc)) (λ b len. steps b len ∙ other-index h (dataOf f) (Open q) b q refl e)
 
 pub outcome : (us : ℕ) (s : State) (room : ℕ) (f : List ℕ) → Outcome us s room f
 outcome us s room f = by-state (consistent s room) refl
   where
     read-as : consistent s room ≡ true → (r : Parsed) → parsed us f ≡ r → Steps us s room f (routed r (dataOf f) s)
-    read-as ok r q b len = ap (λ (read : Parsed). received read (dataOf f) s b) q ∙ good-state r (dataOf f) s b (rw len ok)
+    read-as ok r q b len = good-state (parsed us f) (dataOf f) s b (rw len ok) r q
 
     by-index : consistent s room ≡ true → (h : Header) → parsed us f ≡ Parsed.Header h → (anew : Bool) → isFirst h ≡ anew → Outcome us s room f
     by-index ok h q true e = beginning us s room f h q (λ b len. read-as ok _ q b len ∙ index-zero h (dataOf f) s b e)

@@ -2,7 +2,7 @@
 -- Assumes nothing.
 use Prim.Native.Nat.{ℕ, suc, _+_, _≤_, _<_}
 use mathlib.Core.Bool.{Bool, true, false, cond, not, _||_}
-use mathlib.Core.Path.{_≡_, refl, sym, ap, ap₂, _∙_}
+use mathlib.Core.Path.{_≡_, refl, sym, ap, _∙_}
 use mathlib.Core.List.{List, _++_, append-assoc}
 use borrow.Author.Tests.{eq-eqb, ne-eqb, eqb-true}
 use native.Mathlib.Omega.{arith}
@@ -24,7 +24,7 @@ use Rattle.frame.specs.declared.read.Reason.{Reason}
 use Rattle.frame.specs.declared.read.Reason.the-variants.{FrameShort, FrameLong, WrongType, OtherReceiver}
 use Rattle.frame.proofs.Writing.{length-header}
 use Rattle.frame.proofs.Theorems.{frame-read}
-use Rattle.reassembly.specs.Step.{consistent, sameWords, refused, waiting, landed, taken, lacksData, isNext, accept, proceed, routed, received, stepOf}
+use Rattle.reassembly.specs.Step.{consistent, sameWords, refused, waiting, landed, taken, lacksData, isNext, accept, proceed, routed, stepOf}
 use Rattle.reassembly.specs.Traffic.{PutIn}
 use Rattle.reassembly.specs.declared.State.{State}
 use Rattle.reassembly.specs.declared.State.the-variants.{Fresh, Open}
@@ -70,7 +70,7 @@ module _ (us : ℕ) (s : State) (b : List ℕ) (ok : consistent s (length b) ≡
   pub put-in : (f : List ℕ) → PutIn us f → (reason : Reason) × (stepOf us s b f ≡ refused (Unread reason) s b)
   put-in f h =
       let r = unread us f h in
-      (r .0, ap (λ (read : Parsed). received read (dataOf f) s b) (r .1) ∙ good-state (Parsed.Refused (r .0)) (dataOf f) s b ok)
+      (r .0, good-state (parsed us f) (dataOf f) s b ok (Parsed.Refused (r .0)) (r .1))
 
   -- a frame of a message for us goes by its Index
   module _ (e : Envelope) (fits : Fits e) (ours : e .receiver ≡ us) (total : ℕ) (bounded : total ≤ messageMax) (p : List ℕ) (small : length p ≤ pieceMax) where
@@ -79,7 +79,7 @@ module _ (us : ℕ) (s : State) (b : List ℕ) (ok : consistent s (length b) ≡
         let h = headerFor e total i in
         let parses : parsed us (frameOf h p) ≡ Parsed.Header h = rw (← ours) (frame-read e fits total i (omega arith) (omega arith) p small) in
         let piece-of : dataOf (frameOf h p) ≡ p = drop-at (headerBytes h) p headerSize (length-header h) in
-        ap₂ (λ (r : Parsed) (d : List ℕ). received r d s b) parses piece-of ∙ good-state (Parsed.Header h) p s b ok
+        good-state (parsed us (frameOf h p)) (dataOf (frameOf h p)) s b ok (Parsed.Header h) parses ∙ ap (λ (d : List ℕ). routed (Parsed.Header h) d s b) piece-of
 
     pub first : total ≤ length b → stepOf us s b (frameOf (headerFor e total 0) p) ≡ accept (headerFor e total 0 .words) 0 0 p b
     first room = let h = headerFor e total 0 in read 0 (omega arith) ∙ index-zero h p s b refl ∙ begins (h .words) p b bounded room
@@ -91,7 +91,7 @@ module _ (us : ℕ) (s : State) (b : List ℕ) (ok : consistent s (length b) ≡
 -- the Index that comes next, with the same words, is accepted
 pub in-order : (h : Header) (p b : List ℕ) (filled : ℕ) → proceed h p (waiting (h .words) (h .index) filled) b ≡ accept (h .words) (h .index) filled p b
 in-order h p b filled =
-    goes-on h p b (record { words = h .words; next = h .index; filled = filled }) (eq-eqb (h .index) (h .index) refl) (same-self (wordsOf (h .words)))
+    goes-on h p _ b (record { words = h .words; next = h .index; filled = filled }) refl (eq-eqb (h .index) (h .index) refl) (same-self (wordsOf (h .words)))
 
 -- words whose lists are the same are equal
 words-equal : (v w : Words) → sameWords v w ≡ true → w ≡ v
@@ -105,7 +105,7 @@ Off w i (Open p) = p .words ≡ w → p .next < i
 -- there a frame with Index i is refused, and nothing is open after it
 pub off-track : (h : Header) (p b : List ℕ) (s : State) → Off (h .words) (h .index) s
     → (reason : R.Reason) × (proceed h p s b ≡ record { answer = record { verdict = Refused reason; state = Fresh }; buffer = b })
-off-track h p b Fresh off = (NothingOpen, none-open h p b)
+off-track h p b Fresh off = (NothingOpen, none-open h p Fresh b refl)
 off-track h p b (Open q) off = by-index (isNext h q) refl
   where
     Dropped : Type 0
@@ -115,11 +115,11 @@ off-track h p b (Open q) off = by-index (isNext h q) refl
     by-words i true w =
         let behind = off (words-equal (h .words) (q .words) w) in
         absurd (omega (arith, eqb-true (h .index) (q .next) i))
-    by-words i false w = (OtherWords, other-words h p b q i w)
+    by-words i false w = (OtherWords, other-words h p (Open q) b q refl i w)
 
     by-index : (next : Bool) → isNext h q ≡ next → Dropped
     by-index true i = by-words i _ refl
-    by-index false i = (OutOfOrder, other-index h p b q i)
+    by-index false i = (OutOfOrder, other-index h p (Open q) b q refl i)
 
 -- data that is there, and not more than is missing, is taken
 pub fitting : (w : Words) (i filled : ℕ) (p b : List ℕ) → filled + length p ≤ w .total → (length p ≡ 0 → w .total ≡ 0)

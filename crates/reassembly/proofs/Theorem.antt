@@ -157,7 +157,7 @@ module _ (us room : ℕ) where
 
     waiting-ready : (i filled : ℕ) (b : List ℕ) → length b ≡ room → 1 ≤ i → i ≤ filled → filled < total → Ready (waiting words i filled) b
     waiting-ready i filled b len positive order less =
-        (len, by-room (record { words = words; next = i; filled = filled }) room positive order less bounded ∙ le-leb total room held)
+        (len, by-room _ (record { words = words; next = i; filled = filled }) room refl positive order less bounded ∙ le-leb total room held)
 
     -- the frame waited for comes, and what is left is as on track; or it is lost
     next-frame : (s : Sent) (ss : List Sent) (i filled : ℕ) (b : List ℕ) → Ready (waiting words (suc i) filled) b

@@ -7,7 +7,7 @@ use native.Mathlib.Numerals.{add-one}
 use native.Mathlib.Omega.{arith}
 use lib.ListN.{length}
 use Rattle.le.proofs.Parts.{copied-at}
-use Rattle.reassembly.specs.Step.{waiting, landed, accept}
+use Rattle.reassembly.specs.Step.{waiting}
 use Rattle.reassembly.specs.declared.Answer.{Answer}
 use Rattle.reassembly.specs.declared.State.{State}
 use Rattle.reassembly.specs.declared.Verdict.the-variants.{More}
@@ -27,14 +27,8 @@ refuse-requires c κs = search needs
 
 returns : tie.Need-returns
 returns c =
-    let args = c .before .before .before .before .before .before .args in
-    let w = args .words in
-    let i = args .index in
-    let filled = args .filled in
-    let p = args .piece .now in
-    let b = args .buf .now in
     let lacks = sym (c .before .before .lacks-data .ensures) ∙ c .before .if1 .taken in
-    as-in (accept w i filled p b) _ _ _ (lacking w i filled p b lacks) (c .refuse .ensures) refl
+    as-in _ _ _ _ (lacking _ _ _ _ _ lacks) (c .refuse .ensures) refl
 
 sub-if2 : tie.Need-sub-if2
 sub-if2 c = search needs
@@ -44,14 +38,8 @@ refuse-requires-2 c κs = search needs
 
 returns-2 : tie.Need-returns-2
 returns-2 c =
-    let args = c .before .before .before .before .before .before .before .args in
-    let w = args .words in
-    let i = args .index in
-    let filled = args .filled in
-    let p = args .piece .now in
-    let b = args .buf .now in
     let some = sym (c .before .before .before .lacks-data .ensures) ∙ c .before .before .if1 .left in
-    as-in (accept w i filled p b) _ _ _ (excess w i filled p b some (c .before .if2 .taken)) (c .refuse2 .ensures) refl
+    as-in _ _ _ _ (excess _ _ _ _ _ some (c .before .if2 .taken)) (c .refuse2 .ensures) refl
 
 sub-copy : tie.Need-sub-copy
 sub-copy c = search needs
@@ -73,15 +61,10 @@ same-length c = search needs
 
 returns-3 : tie.Need-returns-3
 returns-3 c =
-    let args = c .before .before .before .before .before .before .before .before .before .before .before .args in
-    let w = args .words in
-    let i = args .index in
-    let filled = args .filled in
-    let p = args .piece .now in
-    let b = args .buf .now in
     let some = sym (c .before .before .before .before .before .before .before .lacks-data .ensures) ∙ c .before .before .before .before .before .before .if1 .left in
-    let at-place = copied-at p b _ filled (omega arith) (c .before .before .before .copy .ensures) in
-    as-in (accept w i filled p b) _ _ _ (data-taken w i filled p b some (c .before .before .before .before .before .if2 .left) ∙ whole w i (filled + length p) (landed filled p b) (c .if3 .taken)) refl at-place
+    let args = c .before .before .before .before .before .before .before .before .before .before .before .args in
+    let at-place = copied-at (args .piece .now) (args .buf .now) _ (args .filled) (omega arith) (c .before .before .before .copy .ensures) in
+    as-in _ _ _ _ (data-taken _ _ _ _ _ some (c .before .before .before .before .before .if2 .left) ∙ whole _ _ _ _ (c .if3 .taken)) refl at-place
 
 add-wait-for : tie.Need-add-wait-for
 add-wait-for c = search needs
@@ -94,16 +77,12 @@ same-length-2 c = search needs
 
 returns-4 : tie.Need-returns-4
 returns-4 c =
-    let args = c .before .before .before .before .before .before .before .before .before .before .before .before .args in
-    let w = args .words in
-    let i = args .index in
-    let filled = args .filled in
-    let p = args .piece .now in
-    let b = args .buf .now in
     let some = sym (c .before .before .before .before .before .before .before .before .lacks-data .ensures) ∙ c .before .before .before .before .before .before .before .if1 .left in
-    let at-place = copied-at p b _ filled (omega arith) (c .before .before .before .before .copy .ensures) in
+    let args = c .before .before .before .before .before .before .before .before .before .before .before .before .args in
+    let at-place = copied-at (args .piece .now) (args .buf .now) _ (args .filled) (omega arith) (c .before .before .before .before .copy .ensures) in
     let more-wanted : State → Answer = λ s. record { verdict = More; state = s } in
-    as-in (accept w i filled p b) _ _ _ (data-taken w i filled p b some (c .before .before .before .before .before .before .if2 .left) ∙ not-whole w i (filled + length p) (landed filled p b) (c .before .if3 .left)) (ap more-wanted (c .wait-for .ensures ∙ ap (λ (n : ℕ). waiting w n (filled + length p)) (add-one i))) at-place
+    let next = ap (λ (n : ℕ). waiting (args .words) n (args .filled + length (args .piece .now))) (add-one (args .index)) in
+    as-in _ _ _ _ (data-taken _ _ _ _ _ some (c .before .before .before .before .before .before .if2 .left) ∙ not-whole _ _ _ _ (c .before .if3 .left)) (ap more-wanted (c .wait-for .ensures ∙ next)) at-place
 
 pub accept-data-spec : {M : Type 1} → statement M
 accept-data-spec =

@@ -1,7 +1,6 @@
 -- `reassembly::begin_message` meets its contract: at each `return` the tests that led there say which answer it is.
 -- Assumes nothing.
 use mathlib.Core.Path.{refl}
-use Rattle.reassembly.specs.Step.{begin}
 use Rattle.reassembly.proofs.Answers.{as-in, over-limit, over-buffer, begins}
 use borrow.Author.Needs.{needs}
 use Rattle.reassembly.proofs.begin_message.Statement.{statement}
@@ -14,23 +13,13 @@ refuse-requires : tie.Need-refuse-requires
 refuse-requires c κs = search needs
 
 returns : tie.Need-returns
-returns c =
-    let args = c .before .before .before .before .before .args in
-    let w = args .words in
-    let p = args .piece .now in
-    let b = args .buf .now in
-    as-in (begin w p b) _ _ _ (over-limit w p b (search needs)) (c .refuse .ensures) refl
+returns c = as-in _ _ _ _ (over-limit _ _ _ (search needs)) (c .refuse .ensures) refl
 
 refuse-requires-2 : tie.Need-refuse-requires-2
 refuse-requires-2 c κs = search needs
 
 returns-2 : tie.Need-returns-2
-returns-2 c =
-    let args = c .before .before .before .before .before .before .args in
-    let w = args .words in
-    let p = args .piece .now in
-    let b = args .buf .now in
-    as-in (begin w p b) _ _ _ (over-buffer w p b (search needs) (search needs)) (c .refuse2 .ensures) refl
+returns-2 c = as-in _ _ _ _ (over-buffer _ _ _ (search needs) (search needs)) (c .refuse2 .ensures) refl
 
 accept-data-requires : tie.Need-accept-data-requires
 accept-data-requires c κs = search needs
@@ -39,12 +28,7 @@ same-length : tie.Need-same-length
 same-length c = search needs
 
 returns-3 : tie.Need-returns-3
-returns-3 c =
-    let args = c .before .before .before .before .before .before .before .before .before .args in
-    let w = args .words in
-    let p = args .piece .now in
-    let b = args .buf .now in
-    as-in (begin w p b) _ _ _ (begins w p b (search needs) (search needs)) (c .before .before .accept-data .ensures .0) (c .before .before .accept-data .ensures .1)
+returns-3 c = as-in _ _ _ _ (begins _ _ _ (search needs) (search needs)) (c .before .before .accept-data .ensures .0) (c .before .before .accept-data .ensures .1)
 
 pub begin-message-spec : {M : Type 1} → statement M
 begin-message-spec =

@@ -5,7 +5,7 @@ use mathlib.Core.Path.{refl, sym, ap, _∙_}
 use native.Mathlib.Omega.{arith}
 use borrow.Author.Tests.{eq-eqb, ne-eqb, not-true, not-false}
 use lib.ListN.{length}
-use Rattle.reassembly.specs.Step.{consistent, refusal, proceed}
+use Rattle.reassembly.specs.Step.{consistent}
 use Rattle.reassembly.specs.declared.State.{State}
 use Rattle.reassembly.proofs.Answers.{as-in, consistent-open, none-open, other-index, other-words, goes-on}
 use borrow.Author.Needs.{needs}
@@ -22,14 +22,7 @@ refuse-requires : tie.Need-refuse-requires
 refuse-requires c κs = search needs
 
 returns : tie.Need-returns
-returns c =
-    let args = c .before .before .before .before .before .args in
-    let h = args .h in
-    let p = args .piece .now in
-    let b = args .buf .now in
-    let given = c .before .enum-told .given in
-    let stands = ap (λ (s : State). proceed h p s b) (given .1) in
-    as-in (proceed h p (args .state) b) _ _ _ (stands ∙ none-open h p b) (c .refuse .ensures ∙ ap (refusal _) (given .1)) refl
+returns c = as-in _ _ _ _ (none-open _ _ _ _ (c .before .enum-told .given .1)) (c .refuse .ensures) refl
 
 cast-if1 : tie.Need-cast-if1
 cast-if1 c = search needs
@@ -39,13 +32,8 @@ refuse-requires-2 c κs = search needs
 
 returns-2 : tie.Need-returns-2
 returns-2 c =
-    let args = c .before .before .before .before .before .before .before .before .before .args in
-    let h = args .h in
-    let p = args .piece .now in
-    let b = args .buf .now in
-    let given = c .before .before .before .before .before .state .given in
-    let stands = ap (λ (s : State). proceed h p s b) (given .1) in
-    as-in (proceed h p (args .state) b) _ _ _ (stands ∙ other-index h p b (given .0 .0) (ne-eqb _ _ (c .before .if1 .taken))) (c .refuse2 .ensures ∙ ap (refusal _) (given .1)) refl
+    let is-open = c .before .before .before .before .before .state .given .1 in
+    as-in _ _ _ _ (other-index _ _ _ _ _ is-open (ne-eqb _ _ (c .before .if1 .taken))) (c .refuse2 .ensures) refl
 
 same-words-requires : tie.Need-same-words-requires
 same-words-requires c κs = search needs
@@ -55,15 +43,10 @@ refuse-requires-3 c κs = search needs
 
 returns-3 : tie.Need-returns-3
 returns-3 c =
-    let args = c .before .before .before .before .before .before .before .before .before .before .before .before .args in
-    let h = args .h in
-    let p = args .piece .now in
-    let b = args .buf .now in
-    let given = c .before .before .before .before .before .before .before .before .state .given in
-    let stands = ap (λ (s : State). proceed h p s b) (given .1) in
+    let is-open = c .before .before .before .before .before .before .before .before .state .given .1 in
     let next = eq-eqb _ _ (c .before .before .before .before .if1 .left) in
     let differ = sym (c .before .before .same-words .ensures) ∙ not-true _ (c .before .if2 .taken) in
-    as-in (proceed h p (args .state) b) _ _ _ (stands ∙ other-words h p b (given .0 .0) next differ) (c .refuse3 .ensures ∙ ap (refusal _) (given .1)) refl
+    as-in _ _ _ _ (other-words _ _ _ _ _ is-open next differ) (c .refuse3 .ensures) refl
 
 accept-data-requires : tie.Need-accept-data-requires
 accept-data-requires c κs =
@@ -78,15 +61,11 @@ same-length c = search needs
 
 returns-4 : tie.Need-returns-4
 returns-4 c =
-    let args = c .before .before .before .before .before .before .before .before .before .before .before .before .before .before .before .args in
-    let h = args .h in
-    let p = args .piece .now in
-    let b = args .buf .now in
-    let given = c .before .before .before .before .before .before .before .before .before .before .before .state .given in
-    let stands = ap (λ (s : State). proceed h p s b) (given .1) in
+    let is-open = c .before .before .before .before .before .before .before .before .before .before .before .state .given .1 in
     let next = eq-eqb _ _ (c .before .before .before .before .before .before .before .if1 .left) in
     let same = sym (c .before .before .before .before .before .same-words .ensures) ∙ not-false _ (c .before .before .before .before .if2 .left) in
-    as-in (proceed h p (args .state) b) _ _ _ (stands ∙ goes-on h p b (given .0 .0) next same) (c .before .before .accept-data .ensures .0) (c .before .before .accept-data .ensures .1)
+    let accepts = c .before .before .accept-data .ensures in
+    as-in _ _ _ _ (goes-on _ _ _ _ _ is-open next same) (accepts .0) (accepts .1)
 
 pub continue-message-spec : {M : Type 1} → statement M
 continue-message-spec =

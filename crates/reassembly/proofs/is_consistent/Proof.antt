@@ -1,6 +1,6 @@
 -- `reassembly::is_consistent` meets its contract: at each `return` the tests that led there say which it is.
 -- Assumes nothing.
-use mathlib.Core.Path.{sym, ap, _∙_}
+use mathlib.Core.Path.{sym, ap}
 use Rattle.reassembly.specs.Step.{consistent}
 use Rattle.reassembly.specs.declared.State.{State}
 use Rattle.reassembly.proofs.Answers.{no-next, next-ahead, all-filled, over-long, by-room}
@@ -22,34 +22,19 @@ cast-total : tie.Need-cast-total
 cast-total c = search needs
 
 returns-2 : tie.Need-returns-2
-returns-2 c =
-    let args = c .before .before .before .before .before .before .before .args in
-    let given = c .before .before .before .before .before .state .given in
-    sym (ap (λ (s : State). consistent s (args .room)) (given .1) ∙ no-next (given .0 .0) (args .room) (search needs))
+returns-2 c = sym (no-next _ _ _ (c .before .before .before .before .before .state .given .1) (search needs))
 
 returns-3 : tie.Need-returns-3
-returns-3 c =
-    let args = c .before .before .before .before .before .before .before .before .before .args in
-    let given = c .before .before .before .before .before .before .before .state .given in
-    sym (ap (λ (s : State). consistent s (args .room)) (given .1) ∙ next-ahead (given .0 .0) (args .room) (search needs) (search needs))
+returns-3 c = sym (next-ahead _ _ _ (c .before .before .before .before .before .before .before .state .given .1) (search needs) (search needs))
 
 returns-4 : tie.Need-returns-4
-returns-4 c =
-    let args = c .before .before .before .before .before .before .before .before .before .before .before .args in
-    let given = c .before .before .before .before .before .before .before .before .before .state .given in
-    sym (ap (λ (s : State). consistent s (args .room)) (given .1) ∙ all-filled (given .0 .0) (args .room) (search needs) (search needs) (search needs))
+returns-4 c = sym (all-filled _ _ _ (c .before .before .before .before .before .before .before .before .before .state .given .1) (search needs) (search needs) (search needs))
 
 returns-5 : tie.Need-returns-5
-returns-5 c =
-    let args = c .before .before .before .before .before .before .before .before .before .before .before .before .args in
-    let given = c .before .before .before .before .before .before .before .before .before .before .state .given in
-    sym (ap (λ (s : State). consistent s (args .room)) (given .1) ∙ over-long (given .0 .0) (args .room) (search needs) (search needs) (search needs) (search needs))
+returns-5 c = sym (over-long _ _ _ (c .before .before .before .before .before .before .before .before .before .before .state .given .1) (search needs) (search needs) (search needs) (search needs))
 
 returns-6 : tie.Need-returns-6
-returns-6 c =
-    let args = c .before .before .before .before .before .before .before .before .before .before .before .before .args in
-    let given = c .before .before .before .before .before .before .before .before .before .before .state .given in
-    sym (ap (λ (s : State). consistent s (args .room)) (given .1) ∙ by-room (given .0 .0) (args .room) (search needs) (search needs) (search needs) (search needs))
+returns-6 c = sym (by-room _ _ _ (c .before .before .before .before .before .before .before .before .before .before .state .given .1) (search needs) (search needs) (search needs) (search needs))
 
 pub is-consistent-spec : {M : Type 1} → statement M
 is-consistent-spec =

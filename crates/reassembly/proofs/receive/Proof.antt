@@ -1,9 +1,7 @@
 -- `reassembly::receive` meets its contract: 11, else by what the reader answered.
 -- Assumes nothing.
-use mathlib.Core.Path.{refl, sym, ap, _∙_}
+use mathlib.Core.Path.{refl, sym, _∙_}
 use borrow.Author.Tests.{not-true, not-false}
-use Rattle.frame.specs.declared.read.Parsed.{Parsed}
-use Rattle.reassembly.specs.Step.{routed, received}
 use Rattle.reassembly.proofs.Answers.{as-in, bad-state, good-state}
 use borrow.Author.Needs.{needs}
 use Rattle.reassembly.proofs.receive.Statement.{statement}
@@ -16,10 +14,7 @@ refuse-requires : tie.Need-refuse-requires
 refuse-requires c κs = search needs
 
 returns : tie.Need-returns
-returns c =
-    let args = c .before .before .before .before .before .args in
-    let bad = bad-state (args .read) (args .piece .now) (args .state) (args .buf .now) (sym (c .before .before .is-consistent .ensures) ∙ not-true _ (c .before .if1 .taken)) in
-    as-in (received (args .read) (args .piece .now) (args .state) (args .buf .now)) _ _ _ bad (c .refuse .ensures) refl
+returns c = as-in _ _ _ _ (bad-state _ _ _ _ (sym (c .before .before .is-consistent .ensures) ∙ not-true _ (c .before .if1 .taken))) (c .refuse .ensures) refl
 
 enum-known-read : tie.Need-enum-known-read
 enum-known-read c = search needs
@@ -35,23 +30,17 @@ route-requires c κs = sym (c .before .before .before .before .before .is-consis
 
 returns-2 : tie.Need-returns-2
 returns-2 c =
-    let args = c .before .before .before .before .before .before .before .before .args in
-    let given = c .before .before .read .given in
-    let good = good-state (args .read) (args .piece .now) (args .state) (args .buf .now) (sym (c .before .before .before .before .before .is-consistent .ensures) ∙ not-false _ (c .before .before .before .before .if1 .left)) in
-    let goes = ap (λ (r : Parsed). routed r (args .piece .now) (args .state) (args .buf .now)) (given .1) in
-    as-in (received (args .read) (args .piece .now) (args .state) (args .buf .now)) _ _ _ (good ∙ goes) (c .refuse2 .ensures) refl
+    let ok = sym (c .before .before .before .before .before .is-consistent .ensures) ∙ not-false _ (c .before .before .before .before .if1 .left) in
+    as-in _ _ _ _ (good-state _ _ _ _ ok _ (c .before .before .read .given .1)) (c .refuse2 .ensures) refl
 
 same-length : tie.Need-same-length
 same-length c = search needs
 
 returns-3 : tie.Need-returns-3
 returns-3 c =
-    let args = c .before .before .before .before .before .before .before .before .before .before .before .args in
-    let given = c .before .before .before .before .before .read2 .given in
-    let good = good-state (args .read) (args .piece .now) (args .state) (args .buf .now) (sym (c .before .before .before .before .before .before .before .before .is-consistent .ensures) ∙ not-false _ (c .before .before .before .before .before .before .before .if1 .left)) in
-    let goes = ap (λ (r : Parsed). routed r (args .piece .now) (args .state) (args .buf .now)) (given .1) in
+    let ok = sym (c .before .before .before .before .before .before .before .before .is-consistent .ensures) ∙ not-false _ (c .before .before .before .before .before .before .before .if1 .left) in
     let routes = c .before .before .route .ensures in
-    as-in (received (args .read) (args .piece .now) (args .state) (args .buf .now)) _ _ _ (good ∙ goes) (routes .0) (routes .1)
+    as-in _ _ _ _ (good-state _ _ _ _ ok _ (c .before .before .before .before .before .read2 .given .1)) (routes .0) (routes .1)
 
 pub receive-spec : {M : Type 1} → statement M
 receive-spec =

@@ -1,8 +1,6 @@
 -- `reassembly::route` meets its contract: by the test on the Index.
 -- Assumes nothing.
 use borrow.Author.Tests.{eq-eqb, ne-eqb}
-use Rattle.frame.specs.declared.read.Parsed.the-variants.{Header}
-use Rattle.reassembly.specs.Step.{routed}
 use Rattle.reassembly.proofs.Answers.{as-in, index-zero, index-more}
 use borrow.Author.Needs.{needs}
 use Rattle.reassembly.proofs.route.Statement.{statement}
@@ -18,8 +16,7 @@ returns : tie.Need-returns
 returns c =
     let args = c .before .before .before .before .before .before .before .before .args in
     let zero = index-zero (args .h) (args .piece .now) (args .state) (args .buf .now) (eq-eqb _ _ (c .before .before .before .before .if1 .taken)) in
-    let begun = c .before .before .begin-message .ensures in
-    as-in (routed (Header (args .h)) (args .piece .now) (args .state) (args .buf .now)) _ _ _ zero (begun .0) (begun .1)
+    as-in _ _ _ _ zero (c .before .before .begin-message .ensures .0) (c .before .before .begin-message .ensures .1)
 
 continue-message-requires : tie.Need-continue-message-requires
 continue-message-requires c κs = search needs
@@ -31,8 +28,7 @@ returns-2 : tie.Need-returns-2
 returns-2 c =
     let args = c .before .before .before .before .before .before .before .before .args in
     let more = index-more (args .h) (args .piece .now) (args .state) (args .buf .now) (ne-eqb _ _ (c .before .before .before .before .if1 .left)) in
-    let gone-on = c .before .before .continue-message .ensures in
-    as-in (routed (Header (args .h)) (args .piece .now) (args .state) (args .buf .now)) _ _ _ more (gone-on .0) (gone-on .1)
+    as-in _ _ _ _ more (c .before .before .continue-message .ensures .0) (c .before .before .continue-message .ensures .1)
 
 pub route-spec : {M : Type 1} → statement M
 route-spec =

@@ -1,10 +1,11 @@
 -- `reassembly::step` meets its contract: what the reader answers, received.
 -- Assumes nothing.
 use Prim.Native.Nat.{ℕ}
-use mathlib.Core.Path.{ap, ap₂, _∙_}
+use mathlib.Core.Path.{sym, ap₂}
 use mathlib.Core.List.{List}
 use Rattle.frame.specs.declared.read.Parsed.{Parsed}
-use Rattle.reassembly.specs.Step.{Stepped, received}
+use Rattle.reassembly.specs.Step.{received}
+use Rattle.reassembly.proofs.Answers.{as-in}
 use borrow.Author.Needs.{needs}
 use Rattle.reassembly.proofs.step.Statement.{statement}
 use Rattle.reassembly.proofs.step.Tie as tie
@@ -24,11 +25,8 @@ same-length c = search needs
 returns : tie.Need-returns
 returns c =
     let args = c .before .before .before .before .before .before .before .before .args in
-    let parses = c .before .before .before .before .before .parse .ensures in
-    let data-is = c .before .before .before .before .«data» .ensures in
-    let is = ap₂ (λ (r : Parsed) (d : List ℕ). received r d (args .state) (args .buf .now)) parses data-is in
-    let receives = c .before .before .receive .ensures in
-    (receives .0 ∙ ap (λ (st : Stepped). st .answer) is, receives .1 ∙ ap (λ (st : Stepped). st .buffer) is)
+    let is = ap₂ (λ (r : Parsed) (d : List ℕ). received r d (args .state) (args .buf .now)) (c .before .before .before .before .before .parse .ensures) (c .before .before .before .before .«data» .ensures) in
+    as-in _ _ _ _ (sym is) (c .before .before .receive .ensures .0) (c .before .before .receive .ensures .1)
 
 pub step-spec : {M : Type 1} → statement M
 step-spec = tie.close (tie.spec parse-requires data-requires receive-requires same-length returns)
