@@ -6,26 +6,11 @@ use borrow.Author.Needs.{needs}
 use Rattle.reassembly.proofs.begin_message.Statement.{statement}
 use Rattle.reassembly.proofs.begin_message.Tie as tie
 
-cast-total : tie.Need-cast-total
-cast-total c = search needs
-
-refuse-requires : tie.Need-refuse-requires
-refuse-requires c κs = search needs
-
 returns : tie.Need-returns
 returns c = as-in _ _ _ _ (over-limit _ _ _ (search needs)) (c .refuse .ensures) refl
 
-refuse-requires-2 : tie.Need-refuse-requires-2
-refuse-requires-2 c κs = search needs
-
 returns-2 : tie.Need-returns-2
 returns-2 c = as-in _ _ _ _ (over-buffer _ _ _ (search needs) (search needs)) (c .refuse2 .ensures) refl
-
-accept-data-requires : tie.Need-accept-data-requires
-accept-data-requires c κs = search needs
-
-same-length : tie.Need-same-length
-same-length c = search needs
 
 returns-3 : tie.Need-returns-3
 returns-3 c = as-in _ _ _ _ (begins _ _ _ (search needs) (search needs)) (c .before .before .accept-data .ensures .0) (c .before .before .accept-data .ensures .1)
@@ -34,11 +19,11 @@ pub begin-message-spec : {M : Type 1} → statement M
 begin-message-spec =
     tie.close
     (tie.spec
-    cast-total
-    refuse-requires
+    (λ c. search needs)
+    (λ c κs. search needs)
     returns
-    refuse-requires-2
+    (λ c κs. search needs)
     returns-2
-    accept-data-requires
-    same-length
+    (λ c κs. search needs)
+    (λ c. search needs)
     returns-3)

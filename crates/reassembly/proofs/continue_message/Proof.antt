@@ -12,34 +12,13 @@ use borrow.Author.Needs.{needs}
 use Rattle.reassembly.proofs.continue_message.Statement.{statement}
 use Rattle.reassembly.proofs.continue_message.Tie as tie
 
-enum-known-state : tie.Need-enum-known-state
-enum-known-state c = search needs
-
-enum-told : tie.Need-enum-told
-enum-told c = search needs
-
-refuse-requires : tie.Need-refuse-requires
-refuse-requires c κs = search needs
-
 returns : tie.Need-returns
 returns c = as-in _ _ _ _ (none-open _ _ _ _ (c .before .enum-told .given .1)) (c .refuse .ensures) refl
-
-cast-if1 : tie.Need-cast-if1
-cast-if1 c = search needs
-
-refuse-requires-2 : tie.Need-refuse-requires-2
-refuse-requires-2 c κs = search needs
 
 returns-2 : tie.Need-returns-2
 returns-2 c =
     let is-open = c .before .before .before .before .before .state .given .1 in
     as-in _ _ _ _ (other-index _ _ _ _ _ is-open (ne-eqb _ _ (c .before .if1 .taken))) (c .refuse2 .ensures) refl
-
-same-words-requires : tie.Need-same-words-requires
-same-words-requires c κs = search needs
-
-refuse-requires-3 : tie.Need-refuse-requires-3
-refuse-requires-3 c κs = search needs
 
 returns-3 : tie.Need-returns-3
 returns-3 c =
@@ -56,9 +35,6 @@ accept-data-requires c κs =
     let known = consistent-open (given .0 .0) room (sym (ap (λ (s : State). consistent s room) (given .1)) ∙ start .pre) in
     (omega arith, (known .held, omega arith))
 
-same-length : tie.Need-same-length
-same-length c = search needs
-
 returns-4 : tie.Need-returns-4
 returns-4 c =
     let is-open = c .before .before .before .before .before .before .before .before .before .before .before .state .given .1 in
@@ -71,16 +47,16 @@ pub continue-message-spec : {M : Type 1} → statement M
 continue-message-spec =
     tie.close
     (tie.spec
-    enum-known-state
-    enum-told
-    refuse-requires
+    (λ c. search needs)
+    (λ c. search needs)
+    (λ c κs. search needs)
     returns
-    cast-if1
-    refuse-requires-2
+    (λ c. search needs)
+    (λ c κs. search needs)
     returns-2
-    same-words-requires
-    refuse-requires-3
+    (λ c κs. search needs)
+    (λ c κs. search needs)
     returns-3
     accept-data-requires
-    same-length
+    (λ c. search needs)
     returns-4)

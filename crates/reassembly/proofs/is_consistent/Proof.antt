@@ -8,18 +8,9 @@ use borrow.Author.Needs.{needs}
 use Rattle.reassembly.proofs.is_consistent.Statement.{statement}
 use Rattle.reassembly.proofs.is_consistent.Tie as tie
 
-enum-known-state : tie.Need-enum-known-state
-enum-known-state c = search needs
-
-enum-told : tie.Need-enum-told
-enum-told c = search needs
-
 returns : tie.Need-returns
 unfolding consistent
 returns c = ap (λ (s : State). consistent s (c .before .before .args .room)) (sym (c .enum-told .given .1))
-
-cast-total : tie.Need-cast-total
-cast-total c = search needs
 
 returns-2 : tie.Need-returns-2
 returns-2 c = sym (no-next _ _ _ (c .before .before .before .before .before .state .given .1) (search needs))
@@ -40,10 +31,10 @@ pub is-consistent-spec : {M : Type 1} → statement M
 is-consistent-spec =
     tie.close
     (tie.spec
-    enum-known-state
-    enum-told
+    (λ c. search needs)
+    (λ c. search needs)
     returns
-    cast-total
+    (λ c. search needs)
     returns-2
     returns-3
     returns-4

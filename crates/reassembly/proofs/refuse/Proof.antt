@@ -4,11 +4,8 @@ use borrow.Author.Needs.{needs}
 use Rattle.reassembly.proofs.refuse.Statement.{statement}
 use Rattle.reassembly.proofs.refuse.Tie as tie
 
-state-after-requires : tie.Need-state-after-requires
-state-after-requires c κs = search needs
-
 returns : tie.Need-returns
 returns c = cc
 
 pub refuse-spec : {M : Type 1} → statement M
-refuse-spec = tie.close (tie.spec state-after-requires returns)
+refuse-spec = tie.close (tie.spec (λ c κs. search needs) returns)

@@ -6,23 +6,11 @@ use borrow.Author.Needs.{needs}
 use Rattle.reassembly.proofs.route.Statement.{statement}
 use Rattle.reassembly.proofs.route.Tie as tie
 
-begin-message-requires : tie.Need-begin-message-requires
-begin-message-requires c κs = search needs
-
-same-length : tie.Need-same-length
-same-length c = search needs
-
 returns : tie.Need-returns
 returns c =
     let args = c .before .before .before .before .before .before .before .before .args in
     let zero = index-zero (args .h) (args .piece .now) (args .state) (args .buf .now) (eq-eqb _ _ (c .before .before .before .before .if1 .taken)) in
     as-in _ _ _ _ zero (c .before .before .begin-message .ensures .0) (c .before .before .begin-message .ensures .1)
-
-continue-message-requires : tie.Need-continue-message-requires
-continue-message-requires c κs = search needs
-
-same-length-2 : tie.Need-same-length-2
-same-length-2 c = search needs
 
 returns-2 : tie.Need-returns-2
 returns-2 c =
@@ -34,9 +22,9 @@ pub route-spec : {M : Type 1} → statement M
 route-spec =
     tie.close
     (tie.spec
-    begin-message-requires
-    same-length
+    (λ c κs. search needs)
+    (λ c. search needs)
     returns
-    continue-message-requires
-    same-length-2
+    (λ c κs. search needs)
+    (λ c. search needs)
     returns-2)

@@ -10,18 +10,6 @@ use borrow.Author.Needs.{needs}
 use Rattle.reassembly.proofs.step.Statement.{statement}
 use Rattle.reassembly.proofs.step.Tie as tie
 
-parse-requires : tie.Need-parse-requires
-parse-requires c κs = search needs
-
-data-requires : tie.Need-data-requires
-data-requires c κs = search needs
-
-receive-requires : tie.Need-receive-requires
-receive-requires c κs = search needs
-
-same-length : tie.Need-same-length
-same-length c = search needs
-
 returns : tie.Need-returns
 returns c =
     let args = c .before .before .before .before .before .before .before .before .args in
@@ -29,4 +17,4 @@ returns c =
     as-in _ _ _ _ (sym is) (c .before .before .receive .ensures .0) (c .before .before .receive .ensures .1)
 
 pub step-spec : {M : Type 1} → statement M
-step-spec = tie.close (tie.spec parse-requires data-requires receive-requires same-length returns)
+step-spec = tie.close (tie.spec (λ c κs. search needs) (λ c κs. search needs) (λ c κs. search needs) (λ c. search needs) returns)

@@ -14,16 +14,10 @@ returns c = let args = c .before .before .args in Reading.short (args .us) (args
 returns-2 : tie.Need-returns-2
 returns-2 c = let args = c .before .before .before .args in Reading.long (args .us) (args .frame .now) (search needs)
 
-u8-at-requires : tie.Need-u8-at-requires
-u8-at-requires c κs = search needs
-
 returns-3 : tie.Need-returns-3
 returns-3 c =
     let args = c .before .before .before .before .before .args in
     Reading.wrong-type (args .us) (args .frame .now) (search needs) (search needs) (λ e. c .if3 .taken (c .before .u8-at .ensures ∙ e))
-
-read-requires : tie.Need-read-requires
-read-requires c κs = search needs
 
 returns-4 : tie.Need-returns-4
 returns-4 c =
@@ -41,4 +35,4 @@ returns-5 c =
 
 pub parse-spec : {M : Type 1} → statement M
 parse-spec =
-    tie.close (tie.spec returns returns-2 u8-at-requires returns-3 read-requires returns-4 returns-5)
+    tie.close (tie.spec returns returns-2 (λ c κs. search needs) returns-3 (λ c κs. search needs) returns-4 returns-5)

@@ -23,15 +23,6 @@ returns-4 c =
     let one = ap (λ n. countOf n (args .size)) (c .if4 .taken) ∙ count-empty (args .size) in
     ap Frames (sym one) ∙ counts (args .total) (args .size) (search needs) (search needs) (search needs)
 
-sub-t7 : tie.Need-sub-t7
-sub-t7 c = search needs
-
-add-t8 : tie.Need-add-t8
-add-t8 c = search needs
-
-div-t9 : tie.Need-div-t9
-div-t9 c = search needs
-
 returns-5 : tie.Need-returns-5
 returns-5 c =
     let args = c .before .before .before .before .args in
@@ -40,4 +31,4 @@ returns-5 c =
 
 pub count-spec : {M : Type 1} → statement M
 count-spec =
-    tie.close (tie.spec returns returns-2 returns-3 returns-4 sub-t7 add-t8 div-t9 returns-5)
+    tie.close (tie.spec returns returns-2 returns-3 returns-4 (λ c. search needs) (λ c. search needs) (λ c. search needs) returns-5)

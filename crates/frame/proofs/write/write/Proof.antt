@@ -39,15 +39,6 @@ small c = index-small _ (start (c .before) .args .size) _ (legal (c .before) .so
 within : (c : tie.Else1) → start (c .before) .args .index * start (c .before) .args .size ≤ length (start (c .before) .args .message .now)
 within c = starts-within _ (start (c .before) .args .size) _ (legal (c .before) .some) (below c)
 
-count-requires : tie.Need-count-requires
-count-requires c κs = search needs
-
-enum-known-reason : tie.Need-enum-known-reason
-enum-known-reason c = search needs
-
-enum-known-frames : tie.Need-enum-known-frames
-enum-known-frames c = search needs
-
 returns : tie.Need-returns
 returns c =
     let args = start (c .before) .args in
@@ -60,14 +51,8 @@ cast-new c = omega (arith, legal (c .before) .message)
 cast-new-2 : tie.Need-cast-new-2
 cast-new-2 c = omega (arith, legal (c .before) .message, legal (c .before) .piece, small c)
 
-new-requires : tie.Need-new-requires
-new-requires c κs = search needs
-
 piece-requires : tie.Need-piece-requires
 piece-requires c κs = (omega (arith, within (c .before)), legal (c .before .before) .piece)
-
-lay-requires : tie.Need-lay-requires
-lay-requires c κs = search needs
 
 returns-2 : tie.Need-returns-2
 returns-2 c =
@@ -76,9 +61,6 @@ returns-2 c =
     let counted-so = sym (c .before .before .before .count .ensures) ∙ reason .1 in
     let answer = refused (args .e) (args .message .now) (args .size) (args .index) (args .out .now) (reason .0 .0) counted-so in
     (sym answer, refl)
-
-same-length : tie.Need-same-length
-same-length c = search needs
 
 returns-3 : tie.Need-returns-3
 returns-3 c =
@@ -96,15 +78,15 @@ pub write-spec : {M : Type 1} → statement M
 write-spec =
     tie.close
     (tie.spec
-    count-requires
-    enum-known-reason
-    enum-known-frames
+    (λ c κs. search needs)
+    (λ c. search needs)
+    (λ c. search needs)
     returns
     cast-new
     cast-new-2
-    new-requires
+    (λ c κs. search needs)
     piece-requires
-    lay-requires
+    (λ c κs. search needs)
     returns-2
-    same-length
+    (λ c. search needs)
     returns-3)
