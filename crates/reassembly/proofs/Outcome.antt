@@ -30,7 +30,7 @@ use Rattle.reassembly.specs.declared.State.the-variants.{Fresh, Open}
 use Rattle.reassembly.specs.declared.Reason.{Reason}
 use Rattle.reassembly.specs.declared.Reason.the-variants.{Unread, NothingOpen, OutOfOrder, OtherWords, NoData, TooMuchData, MessageLong, BadState}
 use Rattle.reassembly.specs.declared.Verdict.{Verdict}
-use Rattle.reassembly.specs.declared.Verdict.the-variants.{More, Delivered, Refused}
+use Rattle.reassembly.specs.declared.Verdict.the-variants.{Refused}
 use Rattle.reassembly.proofs.Answers.{fresh, by-room, consistent-open, lacking, excess, data-taken, whole, not-whole, over-limit, over-buffer, begins, none-open, other-index, other-words, goes-on, index-zero, index-more, bad-state, good-state}
 use Rattle.reassembly.proofs.Steps.{length-landed, start-landed}
 
@@ -191,8 +191,8 @@ refusal-leaves us s b f reason q = by (outcome us s (length b) f)
         let said : _≡_ {A = Verdict} (Refused r) (Refused reason) = rw (steps b refl) at q in
         let same : r ≡ reason = cc in
         rw (steps b refl, ← same) (column r s .0, column r s .1, refl)
-    by (delivers w i filled source all held steps) = apart (let said : _≡_ {A = Verdict} (Delivered w (w .total)) (Refused reason) = rw (steps b refl) at q in cc)
-    by (wants w i filled source room again steps) = apart (let said : _≡_ {A = Verdict} More (Refused reason) = rw (steps b refl) at q in cc)
+    by (delivers w i filled source all held steps) = apart (let said : delivered w b .answer .verdict ≡ Refused reason = rw (steps b refl) at q in cc)
+    by (wants w i filled source room again steps) = apart (let said : wanting w i 0 b .answer .verdict ≡ Refused reason = rw (steps b refl) at q in cc)
 
 -- what was filled before a frame's data was filled in both
 from-source : (us : ℕ) (f : List ℕ) (s : State) (w : Words) (i filled : ℕ) → Source us f s w i filled → (b c : List ℕ) → Agree s b c → take filled b ≡ take filled c
