@@ -1,6 +1,6 @@
--- The laws of one step, and the theorem over whole runs.
+-- The laws of one step, the theorem over whole runs, and what one step can come to.
 pub mod Answers
 pub mod Steps
-pub mod Outcome
 pub mod Theorem
+pub mod Outcome
 pub mod Corollaries
