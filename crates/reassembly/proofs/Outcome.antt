@@ -5,7 +5,6 @@ use Prim.Native.Nat.{ℕ, suc, _+_, _-_, _≤_, _<_}
 use mathlib.Core.Bool.{Bool, true, false}
 use mathlib.Core.Path.{_≡_, refl, sym, ap, _∙_}
 use mathlib.Core.List.{List, _++_}
-use mathlib.Core.Option.{some}
 use native.Mathlib.Nat.{pos-of-ne-zero}
 use native.Mathlib.Omega.{arith}
 use borrow.Author.Tests.{ltb-true, ltb-false, eqb-true, eqb-false, eq-eqb, le-leb, not-false}
@@ -223,7 +222,6 @@ step-agrees us s b c f agree = by (outcome us s (length b) f)
     by (delivers w i filled source all held steps) =
         let alike = landed-alike w i filled source (omega arith) in
         let bytes-are : take (w .total) (landed filled (dataOf f) b) ≡ take (w .total) (landed filled (dataOf f) c) = rw (← all) (alike .1) in
-        rw (steps b refl, steps c (sym (agree .0)))
-        (refl, ap (λ (bytes : List ℕ). some (record { words = w; length = w .total; bytes = bytes })) bytes-are, (alike .0, refl))
+        rw (steps b refl, steps c (sym (agree .0))) (refl, cc, (alike .0, refl))
     by (wants w i filled source room again steps) =
         rw (steps b refl, steps c (sym (agree .0))) (refl, refl, landed-alike w i filled source room)
