@@ -8,11 +8,12 @@ use borrow.Author.Tests.{lt-ltb, le-ltb, eq-eqb, ne-eqb}
 use native.Mathlib.Omega.{arith}
 use borrow.Rule.Slice.PartMut.{midOf, putMid}
 use lib.ListN.{length, take, drop, length-append, length-drop, length-replicate, drop-of-length-le}
-use lib.Seq.{take-all, take-append-add, drop-append-add, drop-drop, getD-drop, length-take-le}
+use lib.Seq.{take-append-add, drop-append-add, drop-drop, getD-drop, length-take-le}
 use Rattle.le.specs.Word.{word, bytes, AreBytes}
+use Rattle.le.specs.Compare.{same}
 use Rattle.le.specs.Copy.{copied}
 use Rattle.le.proofs.Words.{length-bytes, word-same, word-within}
-use Rattle.le.proofs.Comparing.{equal-same, other-list, other-word, word-on}
+use Rattle.le.proofs.Comparing.{equal-same, other-list, other-word, word-on, none-left}
 use Rattle.le.proofs.Parts.{copied-whole, copied-at}
 use Rattle.framelog.specs.Layout.{headerSize, frameMax, lengthOf, reservedOf, zeros, restOf, recordOf}
 use Rattle.framelog.specs.Helpers.{filled}
@@ -47,20 +48,21 @@ zeros-are (suc n) (suc i) = zeros-are n i
 
 -- bytes are compared with as many zeros, a word at a time
 module _ (s : List ℕ) where
-  -- the bytes before a place are zero
-  abbrev pub ZeroTo : ℕ → Type 0
-  ZeroTo at = take at s ≡ take at (zeros (length s))
+  -- what stands from a place on decides
+  abbrev pub ZeroFrom : ℕ → Type 0
+  ZeroFrom at = same (drop at s) (drop at (zeros (length s))) ≡ isZero s
+
+  long : length s ≡ length (zeros (length s))
+  long = sym (length-replicate (length s) 0)
 
   zero-word : (at : ℕ) → word 8 (drop at (zeros (length s))) ≡ 0
   zero-word at = ap (word 8) (drop-zeros at (length s)) ∙ word-zeros 8 (length s - at)
 
-  pub zero-on : (at : ℕ) → AreBytes s → ZeroTo at → word 8 (drop at s) ≡ 0 → ZeroTo (at + 8)
-  zero-on at are so-far e = word-on s (zeros (length s)) at are (zeros-are (length s)) (sym (length-replicate (length s) 0)) so-far (e ∙ sym (zero-word at))
+  pub zero-on : (at : ℕ) → AreBytes s → ZeroFrom at → word 8 (drop at s) ≡ 0 → ZeroFrom (at + 8)
+  zero-on at are so-far e = sym (word-on s (zeros (length s)) at are (zeros-are (length s)) long (e ∙ sym (zero-word at))) ∙ so-far
 
-  pub zero-all : (at : ℕ) → length s ≤ at → ZeroTo at → isZero s ≡ true
-  zero-all at short so-far =
-      let long : length (zeros (length s)) ≡ length s = length-replicate (length s) 0 in
-      equal-same s (zeros (length s)) (sym (take-all at s short) ∙ so-far ∙ take-all at (zeros (length s)) (omega arith))
+  pub zero-all : (at : ℕ) → length s ≤ at → ZeroFrom at → isZero s ≡ true
+  zero-all at short so-far = sym so-far ∙ none-left s (zeros (length s)) at long short
 
   pub zero-not : (at : ℕ) → (word 8 (drop at s) ≡ 0 → ⊥) → isZero s ≡ false
   zero-not at ne = other-word s (zeros (length s)) at (λ e. ne (e ∙ zero-word at))

@@ -5,21 +5,24 @@
 --     other-length   lists of different lengths are not the same
 --     other-word     nor are lists with different words at a place
 --     other-list     nor are lists that are not equal
---     word-on        equal starts, one word longer
---     by-last-word   where no more than a word is left, it decides
+--     byte-on        from a place with equal bytes on, what follows decides
+--     byte-off       and different bytes do
+--     word-on        from a place with equal words on, what follows decides
+--     none-left      from the end on there is nothing to decide
 -- Assumes nothing.
-use Prim.Native.Nat.{ℕ, _+_, _≤_}
-use mathlib.Core.Bool.{Bool, true, false}
+use Prim.Native.Nat.{ℕ, zero, suc, _+_, _≤_, _<_}
+use mathlib.Core.Bool.{Bool, true, false, _&&_}
 use mathlib.Core.Path.{_≡_, refl, ap, ap₂, sym, _∙_}
 use mathlib.Core.List.{List, [], _∷_}
-use borrow.Author.Tests.{eqb-true, eqb-false, eq-eqb}
+use borrow.Author.Tests.{eqb-true, eq-eqb, ne-eqb}
+use native.Mathlib.Numerals.{add-one}
 use native.Mathlib.Omega.{arith}
 use lib.Dec.{eqb}
-use lib.ListN.{length, take, drop, length-drop}
-use lib.Seq.{take-all, take-take, take-add, getD-drop}
+use lib.ListN.{length, take, drop, getD, length-drop, drop-of-length-le}
+use lib.Seq.{drop-cons, drop-drop, getD-drop}
 use Rattle.le.specs.Word.{word, AreBytes}
 use Rattle.le.specs.Compare.{same}
-use Rattle.le.proofs.Tests.{both, never}
+use Rattle.le.proofs.Tests.{apart, never, both}
 use Rattle.le.proofs.Words.{word-same}
 
 pub same-self : (s : List ℕ) → same s s ≡ true
@@ -52,26 +55,37 @@ other-length s t ne = other-list s t (λ e. ne (ap length e))
 pub other-word : (s t : List ℕ) (i : ℕ) → (word 8 (drop i s) ≡ word 8 (drop i t) → ⊥) → same s t ≡ false
 other-word s t i ne = other-list s t (λ e. ne (ap (λ (l : List ℕ). word 8 (drop i l)) e))
 
--- two lists of bytes of one length, which are equal up to a place
-module _ (s t : List ℕ) (i : ℕ) (s-bytes : AreBytes s) (t-bytes : AreBytes t) (long : length s ≡ length t) (so-far : take i s ≡ take i t) where
-  from : (l : List ℕ) → AreBytes l → AreBytes (drop i l)
-  from l h j = rw (getD-drop i l j 0) (h (i + j))
+-- one element
+same-step : (s t : List ℕ) (i : ℕ) → i < length s → i < length t
+    → same (drop i s) (drop i t) ≡ eqb (getD s i 0) (getD t i 0) && same (drop (i + 1) s) (drop (i + 1) t)
+unfolding same
+same-step s t i p q = rw (add-one i, drop-cons s i 0 p, drop-cons t i 0 q)
 
-  next : word 8 (drop i s) ≡ word 8 (drop i t) → take 8 (drop i s) ≡ take 8 (drop i t)
-  next e = word-same 8 (drop i s) (drop i t) (from s s-bytes) (from t t-bytes) (rw (length-drop i s, length-drop i t, long)) e
+module _ (s t : List ℕ) (i : ℕ) (long : length s ≡ length t) (inside : i < length s) where
+  pub byte-on : getD s i 0 ≡ getD t i 0 → same (drop i s) (drop i t) ≡ same (drop (i + 1) s) (drop (i + 1) t)
+  byte-on e = same-step s t i inside (omega arith) ∙ rw (eq-eqb (getD s i 0) (getD t i 0) e)
 
-  pub word-on : word 8 (drop i s) ≡ word 8 (drop i t) → take (i + 8) s ≡ take (i + 8) t
-  word-on e = rw (take-add i 8 s, take-add i 8 t, so-far, next e)
+  pub byte-off : (getD s i 0 ≡ getD t i 0 → ⊥) → same (drop i s) (drop i t) ≡ false
+  byte-off ne = same-step s t i inside (omega arith) ∙ rw (ne-eqb (getD s i 0) (getD t i 0) ne)
 
-  pub by-last-word : length s ≤ i + 8 → same s t ≡ eqb (word 8 (drop i s)) (word 8 (drop i t))
-  by-last-word short = go (eqb (word 8 (drop i s)) (word 8 (drop i t))) refl
-    where
-      go : (b : Bool) → eqb (word 8 (drop i s)) (word 8 (drop i t)) ≡ b → same s t ≡ eqb (word 8 (drop i s)) (word 8 (drop i t))
-      go true q =
-          let on = word-on (eqb-true (word 8 (drop i s)) (word 8 (drop i t)) q) in
-          equal-same s t (sym (take-all (i + 8) s short) ∙ on ∙ take-all (i + 8) t (omega arith)) ∙ sym q
-      go false q = other-word s t i (eqb-false (word 8 (drop i s)) (word 8 (drop i t)) q) ∙ sym q
+-- k elements
+same-on : (k : ℕ) (s t : List ℕ) → take k s ≡ take k t → same s t ≡ same (drop k s) (drop k t)
+unfolding same
+same-on zero s t e = refl
+same-on (suc k) [] [] e = refl
+same-on (suc k) [] (y ∷ ys) e = apart (cc)
+same-on (suc k) (x ∷ xs) [] e = apart (cc)
+same-on (suc k) (x ∷ xs) (y ∷ ys) e = rw (eq-eqb x y (cc)) (same-on k xs ys (cc))
 
--- what is equal up to a place is equal up to one before it
-pub less-far : (s t : List ℕ) (j i : ℕ) → j ≤ i → take i s ≡ take i t → take j s ≡ take j t
-less-far s t j i h e = sym (take-take j i s h) ∙ ap (take j) e ∙ take-take j i t h
+pub word-on : (s t : List ℕ) (i : ℕ) → AreBytes s → AreBytes t → length s ≡ length t → word 8 (drop i s) ≡ word 8 (drop i t)
+    → same (drop i s) (drop i t) ≡ same (drop (i + 8) s) (drop (i + 8) t)
+word-on s t i s-bytes t-bytes long e =
+    let first = word-same 8 (drop i s) (drop i t) (from s s-bytes) (from t t-bytes) (rw (length-drop i s, length-drop i t, long)) e in
+    same-on 8 (drop i s) (drop i t) first ∙ ap₂ same (drop-drop 8 i s) (drop-drop 8 i t)
+  where
+    from : (l : List ℕ) → AreBytes l → AreBytes (drop i l)
+    from l h j = rw (getD-drop i l j 0) (h (i + j))
+
+pub none-left : (s t : List ℕ) (i : ℕ) → length s ≡ length t → length s ≤ i → same (drop i s) (drop i t) ≡ true
+unfolding same
+none-left s t i long end = rw (drop-of-length-le s {i = i} end, drop-of-length-le t {i = i} (omega arith))

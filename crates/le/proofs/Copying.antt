@@ -1,9 +1,10 @@
 -- Laws of a copy to the start of a list, one element a turn.
 --     copy-suc     a turn
 --     copy-all     after as many turns as the shorter list has elements, all that fits is copied
+--     copy-held    by way of a list that is long enough, the same
 -- Assumes nothing.
-use Prim.Native.Nat.{ℕ, zero, suc, _+_, _<_, min}
-use mathlib.Core.Path.{_≡_, refl, ap}
+use Prim.Native.Nat.{ℕ, zero, suc, _+_, _≤_, _<_, min}
+use mathlib.Core.Path.{_≡_, refl, ap, _∙_}
 use mathlib.Core.Bool.{Bool, true, false}
 use mathlib.Core.List.{List, [], _∷_, _++_}
 use native.Mathlib.Numerals.{add-one}
@@ -11,8 +12,9 @@ use native.Mathlib.Omega.{arith}
 use borrow.Author.Tests.{leb-true, leb-false}
 use lib.Dec.{leb}
 use lib.ListN.{length, take, drop, set, getD, drop-of-length-le}
-use lib.Seq.{take-all}
+use lib.Seq.{take-all, take-at, length-take-le}
 use Rattle.le.specs.Copy.{copied}
+use Rattle.le.proofs.Parts.{copied-whole}
 
 at-suc : (i : ℕ) (s d : List ℕ) → i < length s → i < length d → set (take i s ++ drop i d) i (getD s i 0) ≡ take (suc i) s ++ drop (suc i) d
 at-suc i [] d p q = absurd (omega arith)
@@ -35,3 +37,9 @@ copy-all n s d e = go (leb (length s) (length d)) refl
         let longer = leb-false (length s) (length d) gt in
         let n-is : n ≡ length d = omega arith in
         rw (n-is, drop-of-length-le d {i = length d} (omega arith), drop-of-length-le d {i = length s} (omega arith))
+
+pub copy-held : (n : ℕ) (s d held mid : List ℕ) → n ≡ min (length s) (length d) → mid ≡ copied (take n s) held → n ≤ length held → copied (take n mid) d ≡ copied s d
+copy-held n s d held mid e mid-is room =
+    let len : length (take n s) ≡ n = length-take-le n s (omega arith) in
+    let first : take n mid ≡ take n s = rw (mid-is, copied-whole (take n s) held (omega arith)) (take-at (take n s) _ n len) in
+    rw (first, copied-whole (take n s) d (omega arith), len) (copy-all n s d e)

@@ -4,10 +4,12 @@ pub mod sum;
 pub mod word;
 
 ghost use mathlib.Core.Path.{_≡_};
-ghost use Prim.Native.Nat.{min};
-ghost use lib.ListN.{take, drop};
+ghost use Prim.Native.Nat.{_-_, _≤_, min};
+ghost use lib.Dec.{eqb};
+ghost use lib.ListN.{length, take, drop};
 ghost use Rattle.le.specs.Compare as Compare;
 ghost use Rattle.le.specs.Copy.{copied};
+ghost use Rattle.le.specs.Word.{word};
 
 // The slice from `at` on; empty where `at` is past its end.
 pub fn tail(s: &[u8], at: usize) -> &[u8]
@@ -23,25 +25,44 @@ pub fn head(s: &[u8], n: usize) -> &[u8]
     if n < s.len() { &s[..n] } else { s }
 }
 
-// Whether two slices hold the same bytes: word by word, where the last word may overlap the one before it.
+// Whether two slices have the same word at a place from which on both have eight bytes.
+fn same_word(a: &[u8], b: &[u8], at: usize) -> bool
+    requires { ⌜ (8 ≤ length (now a) - at) × (8 ≤ length (now b) - at) ⌝ }
+    ensures { λ r. ⌜ r ≡ eqb (word 8 (drop at (now (a .entry)))) (word 8 (drop at (now (b .entry)))) ⌝ }
+{
+    word::inner_u64(a, at) == word::inner_u64(b, at)
+}
+
+// Whether two slices of one length hold the same bytes from a place on.
+fn same_bytes(a: &[u8], b: &[u8], from: usize) -> bool
+    requires { ⌜ length (now a) ≡ length (now b) ⌝ }
+    ensures { λ r. ⌜ r ≡ Compare.same (drop from (now (a .entry))) (drop from (now (b .entry))) ⌝ }
+{
+    let mut at = from;
+    while at < a.len() {
+        if a[at] != b[at] {
+            return false;
+        }
+        at += 1;
+    }
+    true
+}
+
+// Whether two slices hold the same bytes: word by word, and what is left byte by byte.
 pub fn same(a: &[u8], b: &[u8]) -> bool
     ensures { λ r. ⌜ r ≡ Compare.same (now (a .entry)) (now (b .entry)) ⌝ }
 {
     if a.len() != b.len() {
         return false;
     }
-    if a.len() < 8 {
-        return word::u64_at(a, 0) == word::u64_at(b, 0);
-    }
-    let last = a.len() - 8;
     let mut i = 0;
-    while i < last {
-        if word::u64_at(a, i) != word::u64_at(b, i) {
+    while 8 <= a.len() - i {
+        if !same_word(a, b, i) {
             return false;
         }
         i += 8;
     }
-    word::u64_at(a, last) == word::u64_at(b, last)
+    same_bytes(a, b, i)
 }
 
 fn least(a: usize, b: usize) -> usize
@@ -50,9 +71,8 @@ fn least(a: usize, b: usize) -> usize
     if a < b { a } else { b }
 }
 
-// Copies src to the start of dst, as much of it as fits; the rest of dst stays. Lent `&mut d[at..]`,
-// it changes d from `at` on.
-pub fn copy(src: &[u8], dst: &mut [u8])
+// Byte by byte: a loop from slice to slice stays one, since they might overlap.
+fn copy_bytes(src: &[u8], dst: &mut [u8])
     ensures { λ _. ⌜ now (dst .exit) ≡ copied (now (src .entry)) (now (dst .entry)) ⌝ }
 {
     let n = least(src.len(), dst.len());
@@ -60,5 +80,21 @@ pub fn copy(src: &[u8], dst: &mut [u8])
     while i < n {
         dst[i] = src[i];
         i += 1;
+    }
+}
+
+// Copies src to the start of dst, as much of it as fits; the rest of dst stays. Lent `&mut d[at..]`,
+// it changes d from `at` on. By way of an array, which overlaps neither: the compiler makes one `memmove` of
+// the two copies, and the array vanishes.
+pub fn copy(src: &[u8], dst: &mut [u8])
+    ensures { λ _. ⌜ now (dst .exit) ≡ copied (now (src .entry)) (now (dst .entry)) ⌝ }
+{
+    let n = least(src.len(), dst.len());
+    if n <= 4096 {
+        let mut held = [0u8; 4096];
+        copy_bytes(&src[..n], &mut held);
+        copy_bytes(&held[..n], dst);
+    } else {
+        copy_bytes(src, dst);
     }
 }

@@ -2,7 +2,7 @@
 // end of the slice count as 0, so there is a word at every place.
 use crate::tail;
 ghost use mathlib.Core.Path.{_≡_};
-ghost use Prim.Native.Nat.{_≤_, _<_};
+ghost use Prim.Native.Nat.{_-_, _≤_, _<_};
 ghost use lib.ListN.{length, drop, getD};
 ghost use Rattle.le.specs.Word.{word, bytes};
 
@@ -50,6 +50,14 @@ fn whole_u64(s: &[u8]) -> u64
         + byte_in(s, 5) as u64 * 0x100_0000_0000
         + byte_in(s, 6) as u64 * 0x1_0000_0000_0000
         + byte_in(s, 7) as u64 * 0x100_0000_0000_0000
+}
+
+// The word at a place from which on the slice has eight bytes.
+pub(crate) fn inner_u64(s: &[u8], at: usize) -> u64
+    requires { ⌜ 8 ≤ length (now s) - at ⌝ }
+    ensures { λ r. ⌜ r ≡ word 8 (drop at (now (s .entry))) ⌝ }
+{
+    whole_u64(&s[at..])
 }
 
 // The word at a place of a slice.

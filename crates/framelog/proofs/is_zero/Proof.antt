@@ -1,17 +1,17 @@
--- `framelog::is_zero` meets its contract. The loop's invariant: the bytes up to `at` are zero.
+-- `framelog::is_zero` meets its contract. The loop's invariant: what stands from `at` on decides.
 -- Assumes nothing.
 use Prim.Native.Nat.{_-_}
 use mathlib.Core.Path.{refl, sym, _∙_}
 use native.Mathlib.Omega.{arith}
 use lib.ListN.{length}
 use Rattle.le.specs.Word.{AreBytes}
-use Rattle.framelog.proofs.Answers.{ZeroTo, zero-on, zero-all, zero-not}
+use Rattle.framelog.proofs.Answers.{ZeroFrom, zero-on, zero-all, zero-not}
 use borrow.Author.Needs.{needs}
 use Rattle.framelog.proofs.is_zero.Statement.{statement}
 use Rattle.framelog.proofs.is_zero.Tie as tie
 
 abbrev Inv-loop : tie.InvT-loop
-Inv-loop s at₀ at = AreBytes s × ZeroTo s at
+Inv-loop s at₀ at = AreBytes s × ZeroFrom s at
 
 abbrev μ-loop : tie.MeasureT-loop
 μ-loop s at₀ at = length s - at

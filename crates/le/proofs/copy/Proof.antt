@@ -1,68 +1,67 @@
--- `le::copy` meets its contract. The loop's invariant: the first `i` elements are copied, and the rest is as it was.
+-- `le::copy` meets its contract: what was copied to the array is copied on.
 -- Assumes nothing.
-use Prim.Native.Nat.{_-_, _≤_}
-use mathlib.Core.Path.{_≡_, _∙_}
-use mathlib.Core.List.{_++_}
-use lib.ListN.{length, take, drop, length-set}
-use Rattle.le.proofs.Copying.{copy-suc, copy-all}
+use mathlib.Core.Path.{_∙_}
 use native.Mathlib.Omega.{arith}
+use lib.ListN.{replicate, length-take}
+use Rattle.le.proofs.Copying.{copy-held}
 use borrow.Author.Needs.{needs}
 use Rattle.le.proofs.copy.Statement.{statement}
 use Rattle.le.proofs.copy.Tie as tie
 
-abbrev Inv-loop : tie.InvT-loop
-Inv-loop src dst₀ n i₀ dst i = (i ≤ n) × (length dst ≡ length dst₀) × (dst ≡ take i src ++ drop i dst₀)
-
-abbrev μ-loop : tie.MeasureT-loop
-μ-loop src dst₀ n i₀ dst i = n - i
-
-least-requires : tie.Need-least-requires Inv-loop μ-loop
+least-requires : tie.Need-least-requires
 least-requires c κs = search needs
 
-loop-holds : tie.Need-loop-holds Inv-loop μ-loop
-loop-holds c = search needs
+slice-aggregate-copy-bytes : tie.Need-slice-aggregate-copy-bytes
+slice-aggregate-copy-bytes c = simp length-take (omega arith)
 
-shared-slice-read-dst : tie.Need-shared-slice-read-dst Inv-loop μ-loop
-shared-slice-read-dst c = search needs
+slice-aggregate-copy-bytes-2 : tie.Need-slice-aggregate-copy-bytes-2
+slice-aggregate-copy-bytes-2 c = search needs
 
-slice-write-dst : tie.Need-slice-write-dst Inv-loop μ-loop
-slice-write-dst c = search needs
+copy-bytes-requires : tie.Need-copy-bytes-requires
+copy-bytes-requires c κs = search needs
 
-add-i : tie.Need-add-i Inv-loop μ-loop
-add-i c = search needs
+array-share-prefix-held : tie.Need-array-share-prefix-held
+array-share-prefix-held c = search needs
 
-loop-less : tie.Need-loop-less Inv-loop μ-loop
-loop-less c = search needs
+slice-aggregate-copy-bytes-3 : tie.Need-slice-aggregate-copy-bytes-3
+slice-aggregate-copy-bytes-3 c = simp length-take (omega arith)
 
-loop-again : tie.Need-loop-again Inv-loop μ-loop
-loop-again c =
-    let at-loop = c .before .before in
-    let args = at-loop .before .before .before .before .args in
-    let n = at-loop .before .least .ensures in
-    (search needs, simp length-set (omega arith), copy-suc (at-loop .loop .i) (args .src .now) (args .dst .now) (at-loop .loop .dst) (omega arith) (omega arith) (at-loop .loop .inv .2))
+copy-bytes-requires-2 : tie.Need-copy-bytes-requires-2
+copy-bytes-requires-2 c κs = search needs
 
-same-length : tie.Need-same-length Inv-loop μ-loop
+copy-bytes-requires-3 : tie.Need-copy-bytes-requires-3
+copy-bytes-requires-3 c κs = search needs
+
+same-length : tie.Need-same-length
 same-length c = search needs
 
-returns : tie.Need-returns Inv-loop μ-loop
+returns : tie.Need-returns
 returns c =
-    let at-loop = c .before in
-    let args = at-loop .before .before .before .before .args in
-    let n = at-loop .before .least .ensures in
-    at-loop .loop .inv .2 ∙ copy-all (at-loop .loop .i) (args .src .now) (args .dst .now) (omega arith)
+    let at-held = c .before .before .before .before .before .before in
+    let at-least = at-held .before .before .before .before in
+    let args = at-least .before .before .before .args in
+    c .before .before .copy-bytes2 .ensures
+    ∙ copy-held _ (args .src .now) (args .dst .now) (replicate 4096 0) _ (at-least .least .ensures) (at-held .copy-bytes .ensures) (search needs)
+
+same-length-2 : tie.Need-same-length-2
+same-length-2 c = search needs
+
+returns-2 : tie.Need-returns-2
+returns-2 c = search needs
 
 pub copy-spec : {M : Type 1} → statement M
 copy-spec =
     tie.close
     (tie.spec
-    Inv-loop
-    μ-loop
     least-requires
-    loop-holds
-    shared-slice-read-dst
-    slice-write-dst
-    add-i
-    loop-less
-    loop-again
+    slice-aggregate-copy-bytes
+    slice-aggregate-copy-bytes-2
+    copy-bytes-requires
+    array-share-prefix-held
+    slice-aggregate-copy-bytes-3
+    copy-bytes-requires-2
+    copy-bytes-requires-3
     same-length
-    returns)
+    returns
+    same-length-2
+    returns-2)
