@@ -305,6 +305,17 @@ pub fn table(region: &[u8], base: u64, address: u64, part: &mut [usize; 2]) -> u
 }
 
 #[inline(never)]
+pub fn root(region: &[u8], base: u64, address: u64, root: &mut [usize; 3]) -> u32 {
+    match root_part(region, base, address) {
+        Ok((offset, used, count)) => {
+            *root = [offset, used.len(), count];
+            0
+        }
+        Err(refusal) => refusal,
+    }
+}
+
+#[inline(never)]
 pub fn find(region: &[u8], base: u64, root: u64, name: &[u8], body: &mut [usize; 3]) -> u32 {
     if name.is_empty() || name.len() > 16 || name.contains(&0) {
         return 39;
@@ -338,16 +349,22 @@ pub fn find(region: &[u8], base: u64, root: u64, name: &[u8], body: &mut [usize;
 /// The slots of a root that passes.
 #[inline(always)]
 fn slots(region: &[u8], base: u64, root: u64) -> Result<&[u8], u32> {
-    let (_, root) = used_part(region, base, root, ROOT_HEADER_SIZE)?;
+    let (_, root, count) = root_part(region, base, root)?;
+    Ok(&root[ROOT_HEADER_SIZE..ROOT_HEADER_SIZE + 8 * count])
+}
+
+/// The offset, the used part and the Count of a root that passes.
+#[inline(always)]
+fn root_part(region: &[u8], base: u64, root: u64) -> Result<(usize, &[u8], usize), u32> {
+    let (offset, root) = used_part(region, base, root, ROOT_HEADER_SIZE)?;
     if !is_named(root, b"root_table") {
         return Err(35);
     }
     let count = usize::from(u16::from_le_bytes([root[32], root[33]]));
-    if count > 128 {
+    if count > 128 || ROOT_HEADER_SIZE + 8 * count > root.len() {
         return Err(36);
     }
-    let end = ROOT_HEADER_SIZE + 8 * count;
-    root.get(ROOT_HEADER_SIZE..end).ok_or(36)
+    Ok((offset, root, count))
 }
 
 /// Whether there is a header with that name. It is cheaper than the sum, so it comes first: only
@@ -410,13 +427,43 @@ fn header_offset(region: &[u8], base: u64, address: u64, header_size: usize) -> 
 #[inline(never)]
 pub fn sfi_check(table: &[u8], signature: &mut u32, length: &mut usize) -> u32 {
     match sfi_table(table) {
-        Ok(table) => {
+        Ok((table, _)) => {
             *signature = word_at(table, 0);
             *length = table.len();
             0
         }
         Err(refusal) => refusal,
     }
+}
+
+#[inline(never)]
+pub fn sfi_entry(table: &[u8], k: usize, offset: &mut usize) -> u32 {
+    let (table, entry_size) = match sfi_table(table) {
+        Ok(passed) => passed,
+        Err(refusal) => return refusal,
+    };
+    if k >= (table.len() - SFI_HEADER_SIZE) / entry_size {
+        return 45;
+    }
+    *offset = SFI_HEADER_SIZE + k * entry_size;
+    0
+}
+
+#[inline(never)]
+pub fn sfi_choose(signature: u32, board: &[u8], built_in: &[u8], length: &mut usize) -> u32 {
+    let signature = signature.to_le_bytes();
+    if sfi_kind(&signature).is_none() {
+        return 42;
+    }
+    for (table, which) in [(board, 101), (built_in, 102)] {
+        if let Ok((table, _)) = sfi_table(table) {
+            if table.starts_with(&signature) {
+                *length = table.len();
+                return which;
+            }
+        }
+    }
+    48
 }
 
 #[inline(never)]
@@ -437,9 +484,9 @@ pub fn find_syst(memory: &[u8], offset: &mut usize) -> u32 {
     47
 }
 
-/// The bytes of a table that passes.
+/// The bytes of a table that passes, and the size of its entries.
 #[inline(always)]
-fn sfi_table(slice: &[u8]) -> Result<&[u8], u32> {
+fn sfi_table(slice: &[u8]) -> Result<(&[u8], usize), u32> {
     if slice.len() < SFI_HEADER_SIZE {
         return Err(40);
     }
@@ -447,16 +494,8 @@ fn sfi_table(slice: &[u8]) -> Result<&[u8], u32> {
     if length < SFI_HEADER_SIZE || length > 65_536.min(slice.len()) {
         return Err(40);
     }
-    let (entry_size, revision) = match &slice[..4] {
-        b"SYST" | b"APIC" => (8, 1),
-        b"CPUS" => (4, 1),
-        b"MMAP" => (36, 1),
-        b"FREQ" | b"MRTC" => (12, 1),
-        b"DEVS" => (25, 1),
-        b"GPIO" => (34, 1),
-        b"MTMR" => (16, 2),
-        b"WAKE" => (8, 2),
-        _ => return Err(42),
+    let Some((entry_size, revision)) = sfi_kind(&slice[..4]) else {
+        return Err(42);
     };
     if slice[8] != revision {
         return Err(44);
@@ -470,7 +509,23 @@ fn sfi_table(slice: &[u8]) -> Result<&[u8], u32> {
     if sum8(table) != 0 {
         return Err(41);
     }
-    Ok(table)
+    Ok((table, entry_size))
+}
+
+/// The entry size and the revision of a kind.
+#[inline(always)]
+fn sfi_kind(signature: &[u8]) -> Option<(usize, u8)> {
+    match signature {
+        b"SYST" | b"APIC" => Some((8, 1)),
+        b"CPUS" => Some((4, 1)),
+        b"MMAP" => Some((36, 1)),
+        b"FREQ" | b"MRTC" => Some((12, 1)),
+        b"DEVS" => Some((25, 1)),
+        b"GPIO" => Some((34, 1)),
+        b"MTMR" => Some((16, 2)),
+        b"WAKE" => Some((8, 2)),
+        _ => None,
+    }
 }
 
 #[inline(never)]

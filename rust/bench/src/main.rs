@@ -23,6 +23,7 @@ const SLOTS: usize = 128;
 const ROOT: usize = 40 + 8 * SLOTS;
 const TABLE: usize = 256;
 
+const SYST: u32 = u32::from_le_bytes(*b"SYST");
 const MEMORY: usize = 131_072;
 
 const FRAME: usize = 256;
@@ -36,8 +37,11 @@ type Step = fn(&mut [u64; 7], &[u8], u32, &mut [u8], &mut [u32; 4]) -> u32;
 type Post = fn(&mut [u8], &mut [usize; 2], u32, &[u8]) -> u32;
 type Take = fn(&[u8], &mut [usize; 2], &mut [u8], &mut u32, &mut usize) -> u32;
 type Table = fn(&[u8], u64, u64, &mut [usize; 2]) -> u32;
+type Root = fn(&[u8], u64, u64, &mut [usize; 3]) -> u32;
 type Find = fn(&[u8], u64, u64, &[u8], &mut [usize; 3]) -> u32;
 type SfiCheck = fn(&[u8], &mut u32, &mut usize) -> u32;
+type SfiEntry = fn(&[u8], usize, &mut usize) -> u32;
+type SfiChoose = fn(u32, &[u8], &[u8], &mut usize) -> u32;
 type FindSyst = fn(&[u8], &mut usize) -> u32;
 type LogWrite = fn(&[u8], &mut [u8]) -> u32;
 type LogRead = fn(&[u8], &mut usize) -> u32;
@@ -55,8 +59,11 @@ fn main() {
     post_and_take("post and take, 256 B", 256);
     post_and_take("post and take, 1,024 B", NOTICE);
     table_check();
+    root_check();
     find();
     sfi_check();
+    sfi_entry();
+    sfi_choose();
     find_syst("find SYST, 128 KiB, no hit", &pattern(MEMORY));
     find_syst(
         "find SYST, 128 KiB, 8,192 false signatures",
@@ -157,6 +164,17 @@ fn table_check() {
     );
 }
 
+fn root_check() {
+    let region = root_and_tables();
+    let expected = (0, [0, ROOT, SLOTS]);
+    assert_eq!(call_root(baseline::root, &region), expected);
+    print_row(
+        "root check, 128 slots",
+        || call_root(library::root, &region),
+        || call_root(baseline::root, &region),
+    );
+}
+
 /// Every slot leads to a table of another name; the last one's is sought.
 fn find() {
     let last = SLOTS - 1;
@@ -171,16 +189,42 @@ fn find() {
 }
 
 fn sfi_check() {
-    let mut table = pattern(65_536);
-    table[..10].copy_from_slice(b"SYST\0\0\x01\0\x01\0");
-    table[9] = baseline::sum8(&table).wrapping_neg();
-    let syst = u32::from_le_bytes(*b"SYST");
-    let expected = (0, syst, 65_536);
+    let table = syst(65_536);
+    let expected = (0, SYST, 65_536);
     assert_eq!(call_sfi_check(baseline::sfi_check, &table), expected);
     print_row(
         "sfi check, 64 KiB",
         || call_sfi_check(library::sfi_check, &table),
         || call_sfi_check(baseline::sfi_check, &table),
+    );
+}
+
+/// The last entry, so that all are counted.
+fn sfi_entry() {
+    let table = syst(1024);
+    let last = (1024 - 24) / 8 - 1;
+    let expected = (0, 24 + 8 * last);
+    assert_eq!(call_sfi_entry(baseline::sfi_entry, &table, last), expected);
+    print_row(
+        "sfi entry, the last of 1 KiB",
+        || call_sfi_entry(library::sfi_entry, &table, last),
+        || call_sfi_entry(baseline::sfi_entry, &table, last),
+    );
+}
+
+/// The board's table is right in all but its sum, so both are summed.
+fn sfi_choose() {
+    let (mut board, built_in) = (syst(1024), syst(1024));
+    board[9] ^= 1;
+    let expected = (102, 1024);
+    assert_eq!(
+        call_sfi_choose(baseline::sfi_choose, &board, &built_in),
+        expected
+    );
+    print_row(
+        "sfi choose, the second of two of 1 KiB",
+        || call_sfi_choose(library::sfi_choose, &board, &built_in),
+        || call_sfi_choose(baseline::sfi_choose, &board, &built_in),
     );
 }
 
@@ -218,6 +262,16 @@ fn log_write_and_read() {
         },
     );
     assert_eq!(library_record, rust_record, "the records differ");
+}
+
+/// A SYST that passes.
+fn syst(length: usize) -> Vec<u8> {
+    let mut table = pattern(length);
+    table[..4].copy_from_slice(&SYST.to_le_bytes());
+    table[4..8].copy_from_slice(&(length as u32).to_le_bytes());
+    table[8..10].copy_from_slice(&[1, 0]);
+    table[9] = baseline::sum8(&table).wrapping_neg();
+    table
 }
 
 /// At every 16th byte a SYST with one entry that is right in all but its sum. So each is summed,
@@ -374,6 +428,18 @@ fn call_table(table: Table, region: &[u8]) -> (u32, [usize; 2]) {
 }
 
 #[inline(always)]
+fn call_root(root: Root, region: &[u8]) -> (u32, [usize; 3]) {
+    let mut part = [0; 3];
+    let answer = root(
+        black_box(region),
+        black_box(BASE),
+        black_box(BASE),
+        &mut part,
+    );
+    (answer, part)
+}
+
+#[inline(always)]
 fn call_find(find: Find, region: &[u8], name: &[u8; 9]) -> (u32, [usize; 3]) {
     let mut body = [0; 3];
     let (region, name) = (black_box(region), black_box(name));
@@ -386,6 +452,21 @@ fn call_sfi_check(check: SfiCheck, table: &[u8]) -> (u32, u32, usize) {
     let (mut signature, mut length) = (0, 0);
     let answer = check(black_box(table), &mut signature, &mut length);
     (answer, signature, length)
+}
+
+#[inline(always)]
+fn call_sfi_entry(entry: SfiEntry, table: &[u8], k: usize) -> (u32, usize) {
+    let mut offset = 0;
+    let answer = entry(black_box(table), black_box(k), &mut offset);
+    (answer, offset)
+}
+
+#[inline(always)]
+fn call_sfi_choose(choose: SfiChoose, board: &[u8], built_in: &[u8]) -> (u32, usize) {
+    let mut length = 0;
+    let (board, built_in) = (black_box(board), black_box(built_in));
+    let answer = choose(black_box(SYST), board, built_in, &mut length);
+    (answer, length)
 }
 
 #[inline(always)]
