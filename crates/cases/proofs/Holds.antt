@@ -1,4 +1,4 @@
--- Each number of the table holds: the test computes.
+-- Each number of the table holds: the test computes. So does the equation.
 -- Assumes nothing.
 use mathlib.Core.Path.{refl}
 use Rattle.le.specs.Word.{word, bytes}
@@ -15,8 +15,11 @@ use Rattle.ubios.specs.Layout.{upToZero}
 use Rattle.ubios.specs.Checks.{outside, badSize, judged, checked, rootJudged, rootChecked}
 use Rattle.sfi.specs.Kinds.{among}
 use Rattle.sfi.specs.Checks.{badLength, badEntries, judged as sfiJudged, checked as sfiChecked}
-use Rattle.cases.specs.Cases.{isCount, isLength, holds, allHold, starred, StarredHold}
+use Rattle.cases.specs.Cases.{isCount, isLength, holds, allHold, starred, StarredHold, LogHoldsFrames}
 
 pub starred-hold : StarredHold
 unfolding word bytes total totalOf sum headerBytes parsed countOf counted written consistent accept begin proceed received answers badRing waiting moved posted takenOf run end upToZero outside badSize judged checked rootJudged rootChecked among badLength badEntries sfiJudged sfiChecked same isCount isLength holds allHold starred
 starred-hold = refl
+
+pub log-holds-frames : LogHoldsFrames
+log-holds-frames = refl

@@ -1,5 +1,5 @@
 -- Document 01, "Numbers to check by": the starred numbers, as one table and one statement over it. Each row is a question to the definitions
--- that the code is proved to meet, and the answer that the document gives.
+-- that the code is proved to meet, and the answer that the document gives. And an equation between two crates that do not know each other.
 -- Assumes nothing.
 use Prim.Native.Nat.{ℕ, _+_}
 use mathlib.Core.Bool.{Bool, true, false, _&&_}
@@ -10,6 +10,7 @@ use lib.ListN.{length, take, replicate}
 use Rattle.le.specs.Word.{bytes}
 use Rattle.le.specs.Sum.{sum, checksumOf}
 use Rattle.le.specs.Compare.{same}
+use Rattle.frame.specs.Layout.{frameMax}
 use Rattle.frame.specs.Writing.{counted, written, frameAt, outputAfter}
 use Rattle.frame.specs.declared.Envelope.{Envelope}
 use Rattle.reassembly.specs.Step.{numberOf}
@@ -30,6 +31,7 @@ use Rattle.sfi.specs.Checks as SfiChecks
 use Rattle.sfi.specs.Statements as SfiTables
 use Rattle.sfi.specs.declared.Checked as Sfi
 use Rattle.sfi.specs.declared.Checked.the-variants.{Passed as SfiPassed, Refused as SfiRefused}
+use Rattle.framelog.specs.Layout as Log
 use Rattle.frame.specs.declared.write.Counted.{Counted}
 use Rattle.frame.specs.declared.write.Counted.the-variants.{Frames, Refused as Uncounted}
 use Rattle.frame.specs.declared.write.Written.{Written}
@@ -172,3 +174,7 @@ starred =
 -- the one statement: each of these numbers holds
 abbrev pub StarredHold : Type 0
 StarredHold = allHold starred ≡ true
+
+-- `log-holds-frames`. The longest frame that a record of the log holds is the longest frame there is.
+abbrev pub LogHoldsFrames : Type 0
+LogHoldsFrames = Log.frameMax Log.recordSize ≡ frameMax

@@ -1,24 +1,24 @@
 -- The laws of a record: one for each answer, with what leads there.
 -- Assumes nothing.
-use Prim.Native.Nat.{ℕ, zero, suc, _+_, _-_, _≤_, _<_}
+use Prim.Native.Nat.{ℕ, zero, suc, _+_, _-_, _/_, _%_, _^_, _≤_, _<_}
 use mathlib.Core.Bool.{true, false}
-use mathlib.Core.Path.{_≡_, refl, sym, ap, ap₂, _∙_}
+use mathlib.Core.Path.{_≡_, refl, sym, ap, _∙_}
 use mathlib.Core.List.{List, _∷_, _++_, append-nil, append-assoc}
 use borrow.Author.Tests.{lt-ltb, le-ltb, eq-eqb, ne-eqb}
 use native.Mathlib.Omega.{arith}
-use borrow.Rule.Slice.PartMut.{midOf, putMid}
 use lib.ListN.{length, take, drop, length-append, length-drop, length-replicate, drop-of-length-le}
-use lib.Seq.{take-append-add, drop-append-add, drop-drop, getD-drop, length-take-le}
+use lib.Seq.{getD-drop, length-take-le}
 use Rattle.le.specs.Word.{word, bytes, AreBytes}
 use Rattle.le.specs.Compare.{same}
 use Rattle.le.specs.Copy.{copied}
 use Rattle.le.proofs.Words.{length-bytes, word-same, word-within}
 use Rattle.le.proofs.Comparing.{equal-same, other-list, other-word, word-on, none-left}
-use Rattle.le.proofs.Parts.{copied-whole, copied-at}
+use Rattle.le.proofs.Parts.{copied-whole}
 use Rattle.framelog.specs.Layout.{headerSize, frameMax, lengthOf, reservedOf, zeros, restOf, recordOf}
 use Rattle.framelog.specs.Helpers.{filled}
 use Rattle.framelog.specs.Reading.{isZero, readOf}
 use Rattle.framelog.specs.Writing.{written}
+use Rattle.framelog.specs.Statements.{Size}
 use Rattle.framelog.specs.declared.Reason.the-variants.{WrongSize, NotZero, FrameLong, BadEnd}
 use Rattle.framelog.specs.declared.Logged.the-variants.{Frame, Refused}
 use Rattle.framelog.specs.declared.Written.the-variants.{Done, Refused as NotWritten}
@@ -125,57 +125,30 @@ module _ (size : ℕ) (frame slice : List ℕ) where
     unfolding written
     write-done h = rw (eq-eqb (length slice) size whole, le-ltb (frameMax size) (length frame) h)
 
--- a record is filled: the length at its start, then the frame from byte 4 on
-module _ (frame r : List ℕ) (large : headerSize + length frame ≤ length r) where
-  with-length : (len first : List ℕ) → len ≡ bytes 2 (length frame) → first ≡ copied len r → first ≡ bytes 2 (length frame) ++ drop 2 r
-  with-length len first e-len e =
-      let two : length (bytes 2 (length frame)) ≡ 2 = length-bytes 2 (length frame) in
-      e
-      ∙ ap (λ (l : List ℕ). copied l r) e-len
-      ∙ copied-whole (bytes 2 (length frame)) r (omega arith)
-      ∙ ap (λ (n : ℕ). bytes 2 (length frame) ++ drop n r) two
+-- the header's bytes are the lowest four of a length, of which the last two are zero where two bytes count it
+pub lowest : (n : ℕ) → take headerSize (bytes 8 n) ≡ bytes headerSize n
+unfolding bytes
+lowest n = refl
 
-  pub fills : (len first part : List ℕ) → len ≡ bytes 2 (length frame) → first ≡ copied len r
-      → part ≡ copied frame (midOf headerSize (length first - headerSize) first)
-      → putMid headerSize (length first - headerSize) first part ≡ filled frame r
-  fills len first part e-len e-first e-part =
-      let word = bytes 2 (length frame) in
-      let two : length word ≡ 2 = length-bytes 2 (length frame) in
-      let first-is = with-length len first e-len e-first in
-      let size : length first ≡ 2 + (length r - 2) = ap length first-is ∙ length-append word (drop 2 r) ∙ ap₂ _+_ two (length-drop 2 r) in
-      let four : headerSize ≡ length word + 2 = omega arith in
-      let behind : headerSize + length frame ≡ length word + (2 + length frame) = omega arith in
-      let on : 2 + (2 + length frame) ≡ headerSize + length frame = omega arith in
-      let head : take headerSize first ≡ word ++ take 2 (drop 2 r) =
-      ap (take headerSize) first-is ∙ ap (λ (n : ℕ). take n (word ++ drop 2 r)) four ∙ take-append-add word (drop 2 r) 2 in
-      let tail : drop (headerSize + length frame) first ≡ drop (headerSize + length frame) r =
-      ap (drop (headerSize + length frame)) first-is
-      ∙ ap (λ (n : ℕ). drop n (word ++ drop 2 r)) behind
-      ∙ drop-append-add word (drop 2 r) (2 + length frame)
-      ∙ drop-drop (2 + length frame) 2 r
-      ∙ ap (λ (n : ℕ). drop n r) on in
-      copied-at frame first part headerSize (omega arith) e-part
-      ∙ ap₂ (λ (x y : List ℕ). x ++ (frame ++ y)) head tail
-      ∙ append-assoc word (take 2 (drop 2 r)) (frame ++ drop (headerSize + length frame) r)
+counted : (n : ℕ) → n < 2 ^ 16 → bytes headerSize n ≡ bytes 2 n ++ zeros 2
+unfolding bytes
+counted n h =
+    let third : n / 256 / 256 % 256 ≡ 0 = omega arith in
+    let fourth : n / 256 / 256 / 256 % 256 ≡ 0 = omega arith in
+    rw (third, fourth)
 
--- of zeros that gives the record, which is copied over all of a slice of its size
-module _ (size : ℕ) (frame : List ℕ) (large : headerSize ≤ size) (fits : length frame ≤ frameMax size) where
-  pub of-zeros : filled frame (zeros size) ≡ recordOf size frame
+-- zeros that are filled are the record, which is copied over all of a slice of its size
+module _ (size : ℕ) (frame : List ℕ) (legal : Size size) (fits : length frame ≤ frameMax size) where
+  of-zeros : filled frame (zeros size) ≡ recordOf size frame
   of-zeros =
-      let left : size - (headerSize + length frame) ≡ frameMax size - length frame = omega arith in
-      ap₂ (λ (x y : List ℕ). bytes 2 (length frame) ++ (x ++ (frame ++ y)))
-      (ap (take 2) (drop-zeros 2 size) ∙ take-zeros 2 (size - 2) (omega arith))
-      (drop-zeros (headerSize + length frame) size ∙ ap zeros left)
+      let left : size - (headerSize + length frame) ≡ frameMax size - length frame = omega (arith, legal .least) in
+      rw (counted (length frame) (omega (arith, legal .most)), drop-zeros (headerSize + length frame) size, left) (simp append-assoc)
 
   pub record-length : length (recordOf size frame) ≡ size
-  record-length = simp (length-append, length-bytes, length-replicate) (omega arith)
+  record-length = simp (length-append, length-bytes, length-replicate) (omega (arith, legal .least))
 
   pub copied-out : (slice out r : List ℕ) → length slice ≡ size → r ≡ filled frame (zeros size) → out ≡ copied r slice → out ≡ recordOf size frame
   copied-out slice out r whole e-r e =
       let is = e-r ∙ of-zeros in
       let long : length r ≡ size = ap length is ∙ record-length in
-      e
-      ∙ copied-whole r slice (omega arith)
-      ∙ ap (λ (l : List ℕ). r ++ l) (drop-of-length-le slice {i = length r} (omega arith))
-      ∙ append-nil r
-      ∙ is
+      rw (e, copied-whole r slice (omega arith), drop-of-length-le slice {i = length r} (omega arith), append-nil r) is

@@ -1,10 +1,10 @@
 -- The theorems of `specs/Statements.antt`: a record reads back as the frame that was written, and is the only one that does.
 -- Assumes nothing.
 use Prim.Native.Nat.{ℕ, _+_, _-_, _≤_}
-use mathlib.Core.Bool.{Bool, true, false}
+use mathlib.Core.Bool.{true, not}
 use mathlib.Core.Path.{_≡_, refl, sym, ap, ap₂, subst, _∙_}
 use mathlib.Core.List.{List, _++_}
-use borrow.Author.Tests.{ltb-true, ltb-false, eqb-true, eqb-false}
+use borrow.Author.Tests.{not-false, ltb-false, eqb-true}
 use native.Mathlib.Omega.{arith}
 use lib.Dec.{ltb, eqb}
 use lib.ListN.{length, take, drop, length-drop, length-replicate, take-append-drop}
@@ -12,7 +12,7 @@ use lib.Seq.{take-at, drop-at, drop-drop, length-take-le}
 use Rattle.le.specs.Word.{bytes}
 use Rattle.le.proofs.Words.{word-bytes, bytes-word, length-bytes}
 use Rattle.le.proofs.Comparing.{same-true, equal-same}
-use Rattle.le.proofs.Tests.{apart}
+use Rattle.le.proofs.Tests.{apart, past}
 use Rattle.framelog.specs.Layout.{headerSize, frameMax, lengthOf, reservedOf, zeros, endOf, restOf, recordOf}
 use Rattle.framelog.specs.Reading.{isZero, readOf, frameAfter}
 use Rattle.framelog.specs.Writing.{written, sliceAfter}
@@ -21,7 +21,7 @@ use Rattle.framelog.specs.declared.Logged.{Logged}
 use Rattle.framelog.specs.declared.Logged.the-variants.{Frame}
 use Rattle.framelog.specs.declared.Written.{Written}
 use Rattle.framelog.specs.declared.Written.the-variants.{Done}
-use Rattle.framelog.proofs.Answers.{drop-zeros, wrong-size, frame-long, not-zero, bad-end, frame-read, write-size, write-long, write-done, record-length}
+use Rattle.framelog.proofs.Answers.{drop-zeros, frame-read, write-done, record-length}
 
 zeros-zero : (n : ℕ) → isZero (zeros n) ≡ true
 zeros-zero n = equal-same (zeros n) (zeros (length (zeros n))) (ap zeros (sym (length-replicate n 0)))
@@ -60,7 +60,7 @@ module _ (size : ℕ) (frame : List ℕ) (legal : Size size) (fits : length fram
 
   reads : readOf size r ≡ Frame (length frame)
   reads =
-      frame-read size r (record-length size frame (legal .least) fits) (rw length-is fits)
+      frame-read size r (record-length size frame legal fits) (rw length-is fits)
       (ap (λ (s : List ℕ). isZero (take 2 s)) behind-length ∙ zeros-zero 2)
       (zero-behind (endOf (lengthOf r)) (rw length-is (omega arith)))
       ∙ ap Frame length-is
@@ -70,7 +70,7 @@ module _ (size : ℕ) (frame : List ℕ) (legal : Size size) (fits : length fram
       record {
         read = reads;
         frame-is = ap (λ (x : Logged). frameAfter x r) reads ∙ ap (take (length frame)) behind-header ∙ take-at frame rest (length frame) refl;
-        size-is = record-length size frame (legal .least) fits;
+        size-is = record-length size frame legal fits;
       }
 
 -- what is known where the writer is done
@@ -79,15 +79,11 @@ record Fits (size : ℕ) (frame slice : List ℕ) : Type 0 where
   fits : length frame ≤ frameMax size
 
 done : (size : ℕ) (frame slice : List ℕ) → written size frame slice ≡ Done → Fits size frame slice
-done size frame slice e = by-size (eqb (length slice) size) refl
-  where
-    by-frame : length slice ≡ size → (t : Bool) → ltb (frameMax size) (length frame) ≡ t → Fits size frame slice
-    by-frame w true q = let z = sym (write-long size frame slice w (ltb-true (frameMax size) (length frame) q)) ∙ e in apart (cc)
-    by-frame w false q = record { whole = w; fits = ltb-false (frameMax size) (length frame) q }
-
-    by-size : (t : Bool) → eqb (length slice) size ≡ t → Fits size frame slice
-    by-size true q = by-frame (eqb-true (length slice) size q) (ltb (frameMax size) (length frame)) refl
-    by-size false q = let z = sym (write-size size frame slice (eqb-false (length slice) size q)) ∙ e in apart (cc)
+unfolding written
+done size frame slice e =
+    let by-size = past (not (eqb (length slice) size)) (λ q. apart (cc)) e in
+    let by-frame = past (ltb (frameMax size) (length frame)) (λ q. apart (cc)) (by-size .1) in
+    record { whole = eqb-true _ _ (not-false _ (by-size .0)); fits = ltb-false _ _ (by-frame .0) }
 
 pub size-in-use : SizeInUse
 size-in-use = record { least = omega arith; most = omega arith }
@@ -109,26 +105,20 @@ record Good (size : ℕ) (r : List ℕ) (n : ℕ) : Type 0 where
   is : n ≡ lengthOf r
 
 good : (size : ℕ) (r : List ℕ) (n : ℕ) → readOf size r ≡ Frame n → Good size r n
-good size r n e = by-size (eqb (length r) size) refl
-  where
-    by-rest : length r ≡ size → lengthOf r ≤ frameMax size → isZero (reservedOf r) ≡ true → (t : Bool) → isZero (restOf r) ≡ t → Good size r n
-    by-rest w m z true q =
-        let all = frame-read size r w m z q in
-        let same-length : n ≡ lengthOf r = cc in
-        record { whole = w; most = m; reserved = z; rest = q; is = same-length }
-    by-rest w m z false q = let all = bad-end size r w m z q in apart (cc)
-
-    by-reserved : length r ≡ size → lengthOf r ≤ frameMax size → (t : Bool) → isZero (reservedOf r) ≡ t → Good size r n
-    by-reserved w m true q = by-rest w m q (isZero (restOf r)) refl
-    by-reserved w m false q = let all = not-zero size r w m q in apart (cc)
-
-    by-length : length r ≡ size → (t : Bool) → ltb (frameMax size) (lengthOf r) ≡ t → Good size r n
-    by-length w true q = let all = frame-long size r w (ltb-true (frameMax size) (lengthOf r) q) in apart (cc)
-    by-length w false q = by-reserved w (ltb-false (frameMax size) (lengthOf r) q) (isZero (reservedOf r)) refl
-
-    by-size : (t : Bool) → eqb (length r) size ≡ t → Good size r n
-    by-size true q = by-length (eqb-true (length r) size q) (ltb (frameMax size) (lengthOf r)) refl
-    by-size false q = let all = wrong-size size r (eqb-false (length r) size q) in apart (cc)
+unfolding readOf
+good size r n e =
+    let by-size = past (not (eqb (length r) size)) (λ q. apart (cc)) e in
+    let by-length = past (ltb (frameMax size) (lengthOf r)) (λ q. apart (cc)) (by-size .1) in
+    let by-reserved = past (not (isZero (reservedOf r))) (λ q. apart (cc)) (by-length .1) in
+    let by-rest = past (not (isZero (restOf r))) (λ q. apart (cc)) (by-reserved .1) in
+    let is : lengthOf r ≡ n = cc (by-rest .1) in
+    record {
+      whole = eqb-true _ _ (not-false _ (by-size .0));
+      most = ltb-false _ _ (by-length .0);
+      reserved = not-false _ (by-reserved .0);
+      rest = not-false _ (by-rest .0);
+      is = sym is;
+    }
 
 all-zero : (s : List ℕ) (n : ℕ) → isZero s ≡ true → length s ≡ n → s ≡ zeros n
 all-zero s n e l = same-true s (zeros (length s)) e ∙ ap zeros l

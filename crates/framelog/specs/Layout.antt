@@ -39,6 +39,10 @@ zeros n = replicate n 0
 abbrev pub endOf : ℕ → ℕ
 endOf n = headerSize + n
 
+-- the frame of n bytes
+abbrev pub cutOf : ℕ → List ℕ → List ℕ
+cutOf n r = take n (drop headerSize r)
+
 -- what stands behind the frame
 abbrev pub restOf : List ℕ → List ℕ
 restOf r = drop (endOf (lengthOf r)) r

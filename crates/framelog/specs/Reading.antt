@@ -4,9 +4,9 @@ use Prim.Native.Nat.{ℕ}
 use mathlib.Core.Bool.{Bool, cond, not}
 use mathlib.Core.List.{List, []}
 use lib.Dec.{ltb, eqb}
-use lib.ListN.{length, take, drop}
+use lib.ListN.{length}
 use Rattle.le.specs.Compare.{same}
-use Rattle.framelog.specs.Layout.{headerSize, frameMax, lengthOf, reservedOf, zeros, restOf}
+use Rattle.framelog.specs.Layout.{frameMax, lengthOf, reservedOf, zeros, cutOf, restOf}
 use Rattle.framelog.specs.declared.Reason.the-variants.{WrongSize, NotZero, FrameLong, BadEnd}
 use Rattle.framelog.specs.declared.Logged.{Logged}
 use Rattle.framelog.specs.declared.Logged.the-variants.{Frame, Refused}
@@ -26,5 +26,5 @@ readOf size r =
 
 -- the frame itself, or no bytes of a record that is refused
 abbrev pub frameAfter : Logged → List ℕ → List ℕ
-frameAfter (Frame n) r = take n (drop headerSize r)
+frameAfter (Frame n) r = cutOf n r
 frameAfter (Refused reason) r = []

@@ -1,8 +1,8 @@
 // The frame log: records of 260 bytes, each with one frame as it came from the cable.
 ghost use mathlib.Core.Path.{_≡_};
-ghost use Prim.Native.Nat.{_≤_};
+ghost use Prim.Native.Nat.{_+_, _≤_};
 ghost use lib.ListN.{length};
-ghost use Rattle.framelog.specs.Layout.{numberOf, recordSize, frameMax};
+ghost use Rattle.framelog.specs.Layout.{numberOf, recordSize, headerSize, cutOf};
 ghost use Rattle.framelog.specs.Helpers.{filled};
 ghost use Rattle.framelog.specs.Reading.{isZero, readOf, frameAfter};
 ghost use Rattle.framelog.specs.Writing.{written, sliceAfter};
@@ -64,15 +64,16 @@ fn is_zero(s: &[u8]) -> bool
     true
 }
 
-// The length of the frame in a record, or the first reason to refuse the record.
-pub fn read(slice: &[u8]) -> Logged
-    ensures { λ r. ⌜ r ≡ readOf recordSize (now (slice .entry)) ⌝ }
+// The length of the frame in a record of that size, or the first reason to refuse the record.
+fn read_sized(slice: &[u8], size: usize) -> Logged
+    requires { ⌜ headerSize ≤ size ⌝ }
+    ensures { λ r. ⌜ r ≡ readOf size (now (slice .entry)) ⌝ }
 {
-    if slice.len() != RECORD_SIZE {
+    if slice.len() != size {
         return Logged::Refused(Reason::WrongSize);
     }
     let n = le::word::u16_at(slice, 0) as usize;
-    if FRAME_MAX < n {
+    if size - HEADER_SIZE < n {
         return Logged::Refused(Reason::FrameLong);
     }
     if le::word::u16_at(slice, 2) != 0 {
@@ -84,23 +85,37 @@ pub fn read(slice: &[u8]) -> Logged
     Logged::Frame(n)
 }
 
+// The same of a record of 260 bytes.
+pub fn read(slice: &[u8]) -> Logged
+    ensures { λ r. ⌜ r ≡ readOf recordSize (now (slice .entry)) ⌝ }
+{
+    read_sized(slice, RECORD_SIZE)
+}
+
+// The frame in a record for which `read` gave n.
+pub fn cut(slice: &[u8], n: usize) -> &[u8]
+    ensures { λ r. ⌜ now r ≡ cutOf n (now (slice .entry)) ⌝ }
+{
+    le::head(le::tail(slice, HEADER_SIZE), n)
+}
+
 // The frame in a record, or no bytes of a record that is refused.
 pub fn frame(slice: &[u8]) -> &[u8]
     ensures { λ r. ⌜ now r ≡ frameAfter (readOf recordSize (now (slice .entry))) (now (slice .entry)) ⌝ }
 {
     match read(slice) {
-        Logged::Frame(n) => le::head(le::tail(slice, HEADER_SIZE), n),
-        Logged::Refused(_) => le::head(slice, 0),
+        Logged::Frame(n) => cut(slice, n),
+        Logged::Refused(_) => cut(slice, 0),
     }
 }
 
-// Lays a frame's length at the start of a record, and the frame behind the two bytes that stay.
+// Lays a frame's length at the start of a record, in the header's four bytes, and the frame behind them.
 fn fill(frame: &[u8], built: &mut [u8])
-    requires { ⌜ (length (now built) ≡ recordSize) × (length (now frame) ≤ frameMax recordSize) ⌝ }
+    requires { ⌜ headerSize + length (now frame) ≤ length (now built) ⌝ }
     ensures { λ _. ⌜ now (built .exit) ≡ filled (now (frame .entry)) (now (built .entry)) ⌝ }
 {
-    let n = le::word::u16_bytes(frame.len() as u16);
-    le::copy(&n, built);
+    let n = le::word::u64_bytes(frame.len() as u64);
+    le::copy(le::head(&n, HEADER_SIZE), built);
     le::copy(frame, &mut built[HEADER_SIZE..]);
 }
 

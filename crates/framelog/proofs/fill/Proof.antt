@@ -1,19 +1,27 @@
--- `framelog::fill` meets its contract: two copies, the second to the part from byte 4 on.
+-- `framelog::fill` meets its contract: two copies, the second to the part behind the header.
 -- Assumes nothing.
-use native.Mathlib.Omega.{arith}
-use Rattle.framelog.proofs.Answers.{fills}
+use Prim.Native.Nat.{ℕ}
+use mathlib.Core.Path.{ap, _∙_}
+use mathlib.Core.List.{List}
+use lib.ListN.{length, take}
+use Rattle.le.specs.Word.{bytes}
+use Rattle.le.specs.Copy.{copied}
+use Rattle.le.proofs.Words.{length-bytes}
+use Rattle.le.proofs.Parts.{copied-behind}
+use Rattle.framelog.specs.Layout.{headerSize}
+use Rattle.framelog.proofs.Answers.{lowest}
 use borrow.Author.Needs.{needs}
 use Rattle.framelog.proofs.fill.Statement.{statement}
 use Rattle.framelog.proofs.fill.Tie as tie
 
-cast-u16-bytes : tie.Need-cast-u16-bytes
-cast-u16-bytes c = search needs
+u64-bytes-requires : tie.Need-u64-bytes-requires
+u64-bytes-requires c κs = search needs
 
-u16-bytes-requires : tie.Need-u16-bytes-requires
-u16-bytes-requires c κs = search needs
+slice-aggregate-head : tie.Need-slice-aggregate-head
+slice-aggregate-head c = search needs
 
-slice-aggregate-copy : tie.Need-slice-aggregate-copy
-slice-aggregate-copy c = search needs
+head-requires : tie.Need-head-requires
+head-requires c κs = search needs
 
 copy-requires : tie.Need-copy-requires
 copy-requires c κs = search needs
@@ -35,18 +43,23 @@ same-length c = search needs
 
 returns : tie.Need-returns
 returns c =
-    let start = c .before .before .before .before .before .before .before .before .before .before .before .before in
     let at-copy = c .before .before .before .before .before .before in
-    fills (start .args .frame .now) (start .args .built .now) (omega (arith, start .pre .0, start .pre .1))
-    _ (at-copy .copy .last .1 .0) _ (at-copy .before .before .before .u16-bytes .ensures) (at-copy .copy .ensures) (c .before .before .copy2 .ensures)
+    let at-head = at-copy .before .before in
+    let at-bytes = at-head .before .before in
+    let start = at-bytes .before .before .before in
+    let frame = start .args .frame .now in
+    let built = start .args .built .now in
+    let header = at-head .head .ensures ∙ ap (take headerSize) (at-bytes .u64-bytes .ensures) ∙ lowest (length frame) in
+    let first-is = at-copy .copy .ensures ∙ ap (λ (l : List ℕ). copied l built) header in
+    copied-behind (bytes headerSize (length frame)) frame built _ _ headerSize (length-bytes headerSize (length frame)) (start .pre) first-is (c .before .before .copy2 .ensures)
 
 pub fill-spec : {M : Type 1} → statement M
 fill-spec =
     tie.close
     (tie.spec
-    cast-u16-bytes
-    u16-bytes-requires
-    slice-aggregate-copy
+    u64-bytes-requires
+    slice-aggregate-head
+    head-requires
     copy-requires
     sub-copy
     part-copy-start

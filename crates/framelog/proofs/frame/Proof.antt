@@ -1,9 +1,6 @@
 -- `framelog::frame` meets its contract: the part of the record that `read` says.
 -- Assumes nothing.
 use mathlib.Core.Path.{sym, ap, _∙_}
-use mathlib.Core.List.{List}
-use Prim.Native.Nat.{ℕ}
-use lib.ListN.{take}
 use Rattle.framelog.specs.Reading.{frameAfter}
 use Rattle.framelog.specs.declared.Logged.{Logged}
 use borrow.Author.Needs.{needs}
@@ -16,41 +13,28 @@ read-requires c κs = search needs
 enum-known-n : tie.Need-enum-known-n
 enum-known-n c = search needs
 
-tail-requires : tie.Need-tail-requires
-tail-requires c κs = search needs
-
-head-requires : tie.Need-head-requires
-head-requires c κs = search needs
+cut-requires : tie.Need-cut-requires
+cut-requires c κs = search needs
 
 enum-told : tie.Need-enum-told
 enum-told c = search needs
 
-head-requires-2 : tie.Need-head-requires-2
-head-requires-2 c κs = search needs
+cut-requires-2 : tie.Need-cut-requires-2
+cut-requires-2 c κs = search needs
 
 returns : tie.Need-returns
 returns c =
-    let at-match = c .before .before .before in
+    let at-match = c .before .before in
     let slice = at-match .before .before .before .before .args .slice .now in
-    c .head .ensures
-    ∙ ap (λ (s : List ℕ). take (at-match .n .given .0 .0) s) (c .before .tail .ensures)
-    ∙ sym (ap (λ (x : Logged). frameAfter x slice) (sym (at-match .before .before .read .ensures) ∙ at-match .n .given .1))
+    c .cut .ensures ∙ sym (ap (λ (x : Logged). frameAfter x slice) (sym (at-match .before .before .read .ensures) ∙ at-match .n .given .1))
 
 returns-2 : tie.Need-returns-2
 returns-2 c =
     let at-match = c .before in
     let slice = at-match .before .before .before .before .args .slice .now in
-    c .head2 .ensures ∙ sym (ap (λ (x : Logged). frameAfter x slice) (sym (at-match .before .before .read .ensures) ∙ at-match .enum-told .given .1))
+    c .cut2 .ensures ∙ sym (ap (λ (x : Logged). frameAfter x slice) (sym (at-match .before .before .read .ensures) ∙ at-match .enum-told .given .1))
 
 pub frame-spec : {M : Type 1} → statement M
 frame-spec =
     tie.close
-    (tie.spec
-    read-requires
-    enum-known-n
-    tail-requires
-    head-requires
-    enum-told
-    head-requires-2
-    returns
-    returns-2)
+    (tie.spec read-requires enum-known-n cut-requires enum-told cut-requires-2 returns returns-2)

@@ -1,9 +1,9 @@
 -- `framelog::write` meets its contract: the record is built from zeros, and copied over the slice.
 -- Assumes nothing.
 use mathlib.Core.Path.{refl, sym}
-use native.Mathlib.Omega.{arith}
 use Rattle.framelog.specs.Layout.{recordSize}
 use Rattle.framelog.proofs.Answers.{write-size, write-long, write-done, copied-out}
+use Rattle.framelog.proofs.Theorems.{size-in-use}
 use borrow.Author.Needs.{needs}
 use Rattle.framelog.proofs.write.Statement.{statement}
 use Rattle.framelog.proofs.write.Tie as tie
@@ -41,7 +41,7 @@ returns-3 c =
     let whole = at-fits .before .if1 .left in
     let fits = at-fits .if2 .left in (
       sym (write-done recordSize (a .frame .now) (a .slice .now) whole fits),
-      copied-out recordSize (a .frame .now) (omega arith) fits (a .slice .now) _ _ whole (at-fill .fill .ensures) (c .before .before .copy .ensures),
+      copied-out recordSize (a .frame .now) size-in-use fits (a .slice .now) _ _ whole (at-fill .fill .ensures) (c .before .before .copy .ensures),
     )
 
 pub write-spec : {M : Type 1} → statement M
