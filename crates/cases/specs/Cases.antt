@@ -19,7 +19,7 @@ use Rattle.reassembly.specs.declared.State.the-variants.{Fresh}
 use Rattle.reassembly.specs.declared.Verdict.{Verdict}
 use Rattle.reassembly.specs.declared.Verdict.the-variants.{More, Delivered, Refused}
 use Rattle.notice.specs.Ring as Ring
-use Rattle.notice.specs.Queue.{Notice, Operation, post, take as takeTo, Seen, accepted, rejected, given, nothing, run, end, ringStep}
+use Rattle.notice.specs.Queue.{Notice, Operation, postOf, takeTo, Seen, accepted, rejected, given, nothing, run, end, ringStep}
 use Rattle.notice.specs.Statements.{empty}
 use Rattle.ubios.specs.Layout.{rootName}
 use Rattle.ubios.specs.Checks as Checks
@@ -153,13 +153,13 @@ starred =
     ∷ counts 4096 232 18
     ∷ frames envelope (replicate 4096 7) 232 17 (24 + 152)
     -- a ring of 16, empty at 0: 8 bytes of data get 25
-    ∷ sees (post (record { id = 0x01020304; body = replicate 8 1 }) ∷ []) (25 ∷ [])
+    ∷ sees (postOf (record { id = 0x01020304; body = replicate 8 1 }) ∷ []) (25 ∷ [])
     -- 7 fit, write position 15
-    ∷ sees (post seven ∷ []) (0 ∷ [])
-    ∷ leaves (post seven ∷ []) 0 15 (4 ∷ 3 ∷ 2 ∷ 1 ∷ 7 ∷ 0 ∷ 0 ∷ 0 ∷ 1 ∷ 2 ∷ 3 ∷ 4 ∷ 5 ∷ 6 ∷ 7 ∷ 0 ∷ [])
+    ∷ sees (postOf seven ∷ []) (0 ∷ [])
+    ∷ leaves (postOf seven ∷ []) 0 15 (4 ∷ 3 ∷ 2 ∷ 1 ∷ 7 ∷ 0 ∷ 0 ∷ 0 ∷ 1 ∷ 2 ∷ 3 ∷ 4 ∷ 5 ∷ 6 ∷ 7 ∷ 0 ∷ [])
     -- after the take, 2 bytes of data fill places 15 and 0 to 8, write position 9
-    ∷ sees (post seven ∷ takeTo (replicate 7 0) ∷ post two ∷ []) (0 ∷ 0 ∷ 0 ∷ [])
-    ∷ leaves (post seven ∷ takeTo (replicate 7 0) ∷ post two ∷ []) 15 9
+    ∷ sees (postOf seven ∷ takeTo (replicate 7 0) ∷ postOf two ∷ []) (0 ∷ 0 ∷ 0 ∷ [])
+    ∷ leaves (postOf seven ∷ takeTo (replicate 7 0) ∷ postOf two ∷ []) 15 9
     (0x0C ∷ 0x0B ∷ 0x0A ∷ 2 ∷ 0 ∷ 0 ∷ 0 ∷ 0xEE ∷ 0xFF ∷ 2 ∷ 3 ∷ 4 ∷ 5 ∷ 6 ∷ 7 ∷ 0x0D ∷ [])
     -- a root with Total 40, Version 1, all else 0 has Checksum 0x292EB69A
     ∷ checksums 4 rootHead (replicate 8 0) 0x292EB69A

@@ -42,7 +42,7 @@ use Rattle.reassembly.specs.declared.Verdict.{Verdict}
 use Rattle.reassembly.specs.declared.Verdict.the-variants.{More, Delivered, Refused}
 use Rattle.notice.specs.Ring.{ringAfter, outputAfter}
 use Rattle.notice.specs.Queue as Queue
-use Rattle.notice.specs.Queue.{Operation, post, take, Ring, postStep, takeStep, ringStep}
+use Rattle.notice.specs.Queue.{Operation, postOf, takeTo, Ring, postStep, takeStep, ringStep}
 use Rattle.notice.specs.Statements.{empty}
 use Rattle.notice.specs.declared.Posted.{Posted}
 use Rattle.notice.specs.declared.Posted.the-variants.{Stored, Refused as NotPosted}
@@ -207,12 +207,12 @@ told : (k : Kept) (c : RingCall) → toldBy k (c .operation) (c .id) (c .extent)
 told k c = by (c .operation)
   where
     by : (op : Operation) → toldBy k op (c .id) (c .extent) ≡ inNumbers c (ringStep (ringOf k) op .seen)
-    by (post n) = go (postIn k n)
+    by (postOf n) = go (postIn k n)
       where
         go : (p : Posted) → ofPost (postNumber p) ≡ inNumbers c (postStep p (ringOf k) n .seen)
         go (Stored next) = refl
         go (NotPosted reason) = refl
-    by (take out) = go (takeIn k out)
+    by (takeTo out) = go (takeIn k out)
       where
         go : (t : Taken) → ofTake (takeNumber t) (outputAfter t (k .ring) (positionsOf (k .block)) out) (idAfter t (c .id)) (dataLengthAfter t (c .extent))
             ≡ inNumbers c (takeStep t (ringOf k) out .seen)
@@ -220,13 +220,13 @@ told k c = by (c .operation)
         go (NotTaken reason) = refl
 
 keeps : (k : Kept) (op : Operation) → ringOf (keptAfter k op) ≡ ringStep (ringOf k) op .next
-keeps k (post n) = go (postIn k n)
+keeps k (postOf n) = go (postIn k n)
   where
     go : (p : Posted) → ringOf (record { ring = ringAfter p (k .ring) (positionsOf (k .block)) (n .id) (n .body); block = positionsAfterPost p (k .block) })
         ≡ postStep p (ringOf k) n .next
     go (Stored next) = refl
     go (NotPosted reason) = refl
-keeps k (take out) = go (takeIn k out)
+keeps k (takeTo out) = go (takeIn k out)
   where
     go : (t : Taken) → ringOf (record { ring = k .ring; block = positionsAfterTake t (k .block) }) ≡ takeStep t (ringOf k) out .next
     go (Got id n next) = refl

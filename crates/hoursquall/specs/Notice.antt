@@ -9,7 +9,7 @@ use Rattle.notice.specs.declared.Posted.the-variants.{Stored, Refused as NotPos
 use Rattle.notice.specs.declared.Taken.{Taken}
 use Rattle.notice.specs.declared.Taken.the-variants.{Notice as Got, Refused as NotTaken}
 use Rattle.notice.specs.Ring as Ring
-use Rattle.notice.specs.Queue.{Notice, Operation, post, take}
+use Rattle.notice.specs.Queue.{Notice, Operation, postOf, takeTo}
 
 -- the positions that a block of two numbers is
 abbrev pub positionsOf : List ℕ → Positions
@@ -63,15 +63,15 @@ takeIn k out = Ring.takenOf (k .ring) (positionsOf (k .block)) out
 
 -- what the contracts of the two functions promise of the answer and of what is lent, by operation
 abbrev pub toldBy : Kept → Operation → ℕ → ℕ → Told
-toldBy k (post n) id extent = ofPost (postNumber (postIn k n))
-toldBy k (take out) id extent =
+toldBy k (postOf n) id extent = ofPost (postNumber (postIn k n))
+toldBy k (takeTo out) id extent =
     ofTake (takeNumber (takeIn k out)) (Ring.outputAfter (takeIn k out) (k .ring) (positionsOf (k .block)) out) (idAfter (takeIn k out) id)
     (dataLengthAfter (takeIn k out) extent)
 
 abbrev pub keptAfter : Kept → Operation → Kept
-keptAfter k (post n) =
+keptAfter k (postOf n) =
     record {
       ring = Ring.ringAfter (postIn k n) (k .ring) (positionsOf (k .block)) (n .id) (n .body);
       block = positionsAfterPost (postIn k n) (k .block);
     }
-keptAfter k (take out) = record { ring = k .ring; block = positionsAfterTake (takeIn k out) (k .block) }
+keptAfter k (takeTo out) = record { ring = k .ring; block = positionsAfterTake (takeIn k out) (k .block) }

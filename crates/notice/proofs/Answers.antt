@@ -1,16 +1,16 @@
 -- The laws of a post and a take: one for each answer, with what leads there.
 -- Assumes nothing.
-use Prim.Native.Nat.{ℕ, _+_, _-_, _%_, _≤_, _<_}
-use mathlib.Core.Bool.{Bool, true, false, not}
+use Prim.Native.Nat.{ℕ, _+_, _-_, _≤_, _<_}
+use mathlib.Core.Bool.{Bool, true, false, _||_}
 use mathlib.Core.Path.{_≡_, refl, _∙_}
 use mathlib.Core.List.{List}
-use borrow.Author.Tests.{lt-ltb, le-ltb, lt-leb, le-leb, eq-eqb, ne-eqb, ltb-false, leb-false}
+use borrow.Author.Tests.{lt-ltb, le-ltb, lt-leb, le-leb, ltb-false, leb-false}
 use native.Mathlib.Nat.{mod-eq-of-lt, mod-eq-sub-mod}
 use native.Mathlib.Omega.{arith}
-use lib.Dec.{ltb, leb, eqb}
+use lib.Dec.{ltb}
 use lib.ListN.{length}
-use Rattle.le.proofs.Tests.{apart, neither, agree}
-use Rattle.notice.specs.Ring.{headerSize, badRing, isBetween, waiting, isEmpty, free, isLong, isFull, moved, posted, idAt, lengthAt, damaged, isShort, takenOf}
+use Rattle.le.proofs.Tests.{apart, neither, past, agree}
+use Rattle.notice.specs.Ring.{headerSize, ringMin, ringMax, isSmall, isLarge, isUneven, isOutside, badRing, isBetween, waiting, isEmpty, free, isLong, isFull, moved, posted, idAt, lengthAt, lacksHeader, lacksData, damaged, isShort, takenOf}
 use Rattle.notice.specs.declared.Positions.{Positions}
 use Rattle.notice.specs.declared.Reason.the-variants.{BadRing, Empty, Damaged, OutputShort, DataLong, Full}
 use Rattle.notice.specs.declared.Posted.the-variants.{Stored, Refused as NotPosted}
@@ -18,45 +18,29 @@ use Rattle.notice.specs.declared.Taken.the-variants.{Notice, Refused as 
 
 -- what is known of a ring that is not bad
 pub record Good (c : ℕ) (at : Positions) : Type 0 where
-  pub least : 16 ≤ c
-  pub most : c ≤ 65536
+  pub least : ringMin ≤ c
+  pub most : c ≤ ringMax
   pub read : at .read < c
   pub write : at .write < c
 
--- which rings are bad
-module _ (c : ℕ) (at : Positions) where
-  pub too-small : c < 16 → badRing c at ≡ true
-  unfolding badRing
-  too-small h = rw (lt-ltb c 16 h)
-
-  pub too-large : 16 ≤ c → 65536 < c → badRing c at ≡ true
-  unfolding badRing
-  too-large s h = rw (le-ltb c 16 s, lt-ltb 65536 c h)
-
-  pub uneven : 16 ≤ c → c ≤ 65536 → (c % 8 ≡ 0 → ⊥) → badRing c at ≡ true
-  unfolding badRing
-  uneven s l h = rw (le-ltb c 16 s, le-ltb 65536 c l, ne-eqb (c % 8) 0 h)
-
-  pub read-outside : 16 ≤ c → c ≤ 65536 → c % 8 ≡ 0 → c ≤ at .read → badRing c at ≡ true
-  unfolding badRing
-  read-outside s l e h = rw (le-ltb c 16 s, le-ltb 65536 c l, eq-eqb (c % 8) 0 e, le-leb c (at .read) h)
-
-  pub by-write : 16 ≤ c → c ≤ 65536 → c % 8 ≡ 0 → at .read < c → badRing c at ≡ leb c (at .write)
-  unfolding badRing
-  by-write s l e h = rw (le-ltb c 16 s, le-ltb 65536 c l, eq-eqb (c % 8) 0 e, lt-leb c (at .read) h)
+-- a ring of a legal capacity is bad by its positions
+pub by-positions : (c : ℕ) (at : Positions) → isSmall c ≡ false → isLarge c ≡ false → isUneven c ≡ false
+    → badRing c at ≡ isOutside c (at .read) || isOutside c (at .write)
+unfolding badRing
+by-positions c at small large uneven = rw (small, large, uneven)
 
 pub good : (c : ℕ) (at : Positions) → badRing c at ≡ false → Good c at
 unfolding badRing
 good c at e =
-    let p = neither (ltb c 16) _ e in
-    let q = neither (ltb 65536 c) _ (p .1) in
-    let r = neither (not (eqb (c % 8) 0)) _ (q .1) in
-    let s = neither (leb c (at .read)) _ (r .1) in
+    let p = neither (isSmall c) _ e in
+    let q = neither (isLarge c) _ (p .1) in
+    let r = neither (isUneven c) _ (q .1) in
+    let s = neither (isOutside c (at .read)) _ (r .1) in
     record {
-      least = ltb-false c 16 (p .0);
-      most = ltb-false 65536 c (q .0);
-      read = leb-false c (at .read) (s .0);
-      write = leb-false c (at .write) (s .1);
+      least = ltb-false _ _ (p .0);
+      most = ltb-false _ _ (q .0);
+      read = leb-false _ _ (s .0);
+      write = leb-false _ _ (s .1);
     }
 
 -- how many bytes wait: by which position is behind the other
@@ -127,44 +111,30 @@ module _ (ring : List ℕ) (at : Positions) (id : ℕ) (body : List ℕ) where
     post-stored h f = rw (ok, h, f)
 
 -- what is known where a post is accepted
-pub record Accepted (ring : List ℕ) (at : Positions) (body : List ℕ) : Type 0 where
+pub record Accepted (ring : List ℕ) (at : Positions) (body : List ℕ) (next : Positions) : Type 0 where
   pub ok : badRing (length ring) at ≡ false
   pub small : isLong (length body) ≡ false
   pub fits : isFull (length ring) at (length body) ≡ false
+  pub is : Stored (record { read = at .read; write = moved (length ring) (at .write) (headerSize + length body) }) ≡ Stored next
 
-pub accepted : (ring : List ℕ) (at : Positions) (id : ℕ) (body : List ℕ) (next : Positions) → posted ring at id body ≡ Stored next → Accepted ring at body
-accepted ring at id body next e = go (badRing (length ring) at) refl (isLong (length body)) refl (isFull (length ring) at (length body)) refl
-  where
-    go : (x : Bool) → badRing (length ring) at ≡ x → (y : Bool) → isLong (length body) ≡ y → (z : Bool) → isFull (length ring) at (length body) ≡ z
-        → Accepted ring at body
-    go true p y q z r = let no = post-bad ring at id body p in apart (cc)
-    go false p true q z r = let no = post-long ring at id body p q in apart (cc)
-    go false p false q true r = let no = post-full ring at id body p q r in apart (cc)
-    go false p false q false r = record { ok = p; small = q; fits = r }
+pub accepted : (ring : List ℕ) (at : Positions) (id : ℕ) (body : List ℕ) (next : Positions) → posted ring at id body ≡ Stored next → Accepted ring at body next
+unfolding posted
+accepted ring at id body next e =
+    let p = past (badRing (length ring) at) (λ z. apart (cc)) e in
+    let q = past (isLong (length body)) (λ z. apart (cc)) (p .1) in
+    let r = past (isFull (length ring) at (length body)) (λ z. apart (cc)) (q .1) in
+    record { ok = p .0; small = q .0; fits = r .0; is = r .1 }
 
--- which notices are damaged
-module _ (ring : List ℕ) (at : Positions) where
-  pub few-wait : waiting (length ring) at < headerSize → damaged ring at ≡ true
-  few-wait h = rw (lt-ltb (waiting (length ring) at) headerSize h)
-
-  module _ (head : headerSize ≤ waiting (length ring) at) where
-    pub over-long : isLong (lengthAt ring at) ≡ true → damaged ring at ≡ true
-    over-long h = rw (le-ltb (waiting (length ring) at) headerSize head, h)
-
-    module _ (small : isLong (lengthAt ring at) ≡ false) where
-      pub past-waiting : waiting (length ring) at - headerSize < lengthAt ring at → damaged ring at ≡ true
-      past-waiting h = rw (le-ltb (waiting (length ring) at) headerSize head, small, lt-ltb (waiting (length ring) at - headerSize) (lengthAt ring at) h)
-
-      pub undamaged : lengthAt ring at ≤ waiting (length ring) at - headerSize → damaged ring at ≡ false
-      undamaged h = rw (le-ltb (waiting (length ring) at) headerSize head, small, le-ltb (waiting (length ring) at - headerSize) (lengthAt ring at) h)
+-- where a header waits, and its Data Length is legal, a notice is damaged by what waits behind it
+pub by-data : (ring : List ℕ) (at : Positions) → lacksHeader ring at ≡ false → isLong (lengthAt ring at) ≡ false → damaged ring at ≡ lacksData ring at
+by-data ring at head small = rw (head, small)
 
 pub within-waiting : (ring : List ℕ) (at : Positions) → damaged ring at ≡ false → headerSize + lengthAt ring at ≤ waiting (length ring) at
 within-waiting ring at e =
-    let c = length ring in
-    let p = neither (ltb (waiting c at) headerSize) _ e in
+    let p = neither (lacksHeader ring at) _ e in
     let q = neither (isLong (lengthAt ring at)) _ (p .1) in
-    let head = ltb-false (waiting c at) headerSize (p .0) in
-    let whole = ltb-false (waiting c at - headerSize) (lengthAt ring at) (q .1) in
+    let head = ltb-false (waiting (length ring) at) headerSize (p .0) in
+    let whole = ltb-false (waiting (length ring) at - headerSize) (lengthAt ring at) (q .1) in
     omega arith
 
 -- notices with the same parts are the same answer
@@ -200,19 +170,17 @@ module _ (ring : List ℕ) (at : Positions) (out : List ℕ) where
         take-notice h = rw (ok, some, sound, h)
 
 -- what is known where a take answers a notice
-pub record Answered (ring : List ℕ) (at : Positions) (out : List ℕ) : Type 0 where
+pub record Answered (ring : List ℕ) (at : Positions) (out : List ℕ) (id n : ℕ) (next : Positions) : Type 0 where
   pub ok : badRing (length ring) at ≡ false
-  pub some : isEmpty at ≡ false
   pub sound : damaged ring at ≡ false
   pub room : isShort ring at out ≡ false
+  pub is : Notice (idAt ring at) (lengthAt ring at) (record { read = moved (length ring) (at .read) (headerSize + lengthAt ring at); write = at .write }) ≡ Notice id n next
 
-pub answered : (ring : List ℕ) (at : Positions) (out : List ℕ) (id n : ℕ) (next : Positions) → takenOf ring at out ≡ Notice id n next → Answered ring at out
-answered ring at out id n next e = go (badRing (length ring) at) refl (isEmpty at) refl (damaged ring at) refl (isShort ring at out) refl
-  where
-    go : (w : Bool) → badRing (length ring) at ≡ w → (x : Bool) → isEmpty at ≡ x → (y : Bool) → damaged ring at ≡ y → (z : Bool) → isShort ring at out ≡ z
-        → Answered ring at out
-    go true p x q y r z s = let no = take-bad ring at out p in apart (cc)
-    go false p true q y r z s = let no = take-empty ring at out p q in apart (cc)
-    go false p false q true r z s = let no = take-damaged ring at out p q r in apart (cc)
-    go false p false q false r true s = let no = take-short ring at out p q r s in apart (cc)
-    go false p false q false r false s = record { ok = p; some = q; sound = r; room = s }
+pub answered : (ring : List ℕ) (at : Positions) (out : List ℕ) (id n : ℕ) (next : Positions) → takenOf ring at out ≡ Notice id n next → Answered ring at out id n next
+unfolding takenOf
+answered ring at out id n next e =
+    let p = past (badRing (length ring) at) (λ z. apart (cc)) e in
+    let q = past (isEmpty at) (λ z. apart (cc)) (p .1) in
+    let r = past (damaged ring at) (λ z. apart (cc)) (q .1) in
+    let s = past (isShort ring at out) (λ z. apart (cc)) (r .1) in
+    record { ok = p .0; sound = r .0; room = s .0; is = s .1 }

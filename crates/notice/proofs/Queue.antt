@@ -4,7 +4,7 @@
 --     take-keeps    so is a take
 -- Assumes nothing.
 use Prim.Native.Nat.{ℕ, _+_, _-_, _%_, _^_, _≤_, _<_}
-use mathlib.Core.Bool.{Bool, true, false}
+use mathlib.Core.Bool.{Bool, true, false, not, _||_}
 use mathlib.Core.Path.{_≡_, refl, sym, ap, ap₂, _∙_}
 use mathlib.Core.List.{List, [], _∷_, _++_, append-assoc, append-nil}
 use native.Mathlib.Nat.{mod-add-mod}
@@ -20,9 +20,8 @@ use Rattle.notice.specs.Queue.{Notice, accepted, given, nothing, Step, R
 use Rattle.notice.specs.Statements.{Capacity}
 use Rattle.notice.specs.declared.Positions.{Positions}
 use Rattle.notice.specs.declared.Reason.the-variants.{OutputShort}
-use Rattle.notice.specs.declared.Taken.the-variants.{Notice as Got}
 use Rattle.notice.proofs.Turning.{length-turned, turned-back, turned-moved, turned-stored, length-stored, stored-join, moved-below}
-use Rattle.notice.proofs.Answers.{by-write, between, round, waits-between, waits-round, moved-inside, moved-past, no-room, has-room, post-long, post-full, post-stored, undamaged, take-empty, notice-same, take-short, take-notice}
+use Rattle.notice.proofs.Answers.{by-positions, between, round, waits-between, waits-round, moved-inside, moved-past, no-room, has-room, post-long, post-full, post-stored, by-data, take-empty, notice-same, take-short, take-notice}
 
 -- the lengths of notices
 pub length-notice : (n : Notice) → length (noticeOf (n .id) (n .body)) ≡ size n
@@ -129,7 +128,9 @@ module _ (r : Ring) (q : List Notice) (h : Holds r q) where
   written = rw (h .write) (moved-below c (r .at .read) (sizes q) (h .read))
 
   ok : badRing c (r .at) ≡ false
-  ok = by-write c (r .at) (h .legal .least) (h .legal .most) (h .legal .aligned) (h .read) ∙ lt-leb c (r .at .write) written
+  ok =
+      by-positions c (r .at) (le-ltb _ _ (h .legal .least)) (le-ltb _ _ (h .legal .most)) (ap not (eq-eqb _ _ (h .legal .aligned)))
+      ∙ ap₂ _||_ (lt-leb _ _ (h .read)) (lt-leb _ _ written)
 
   pub waits : waiting c (r .at) ≡ sizes q
   waits = waits-moved c (r .at) (sizes q) (h .read) (h .room) (h .write)
@@ -256,8 +257,10 @@ module _ (r : Ring) (n : Notice) (q : List Notice) (h : Holds r (n ∷ q)) where
     sound : damaged (r .bytes) (r .at) ≡ false
     sound =
         let count = wait in
+        let long = length-is in
         let small = le-ltb dataMax (length (n .body)) (h .fit .0 .short) in
-        undamaged (r .bytes) (r .at) (omega arith) (rw length-is small) (rw (length-is, wait) (omega arith))
+        by-data (r .bytes) (r .at) (le-ltb (waiting capacity (r .at)) headerSize (omega arith)) (rw length-is small)
+        ∙ le-ltb (waiting capacity (r .at) - headerSize) (lengthAt (r .bytes) (r .at)) (omega arith)
 
     left-waiting : ltb (length out) (length (n .body)) ≡ true → Keeps r taken (record { seen = nothing OutputShort out; next = n ∷ q })
     left-waiting l =

@@ -13,26 +13,26 @@ use lib.ListN as ListN
 use lib.Seq.{take-at, drop-at, take-take}
 use Rattle.le.proofs.Tests.{apart, past}
 use Rattle.notice.specs.Ring.{dataMax, headerSize, badRing, isBetween, waiting, isEmpty, moved, turned, stored, noticeOf, idAt, lengthAt, damaged, isShort, takenOf}
-use Rattle.notice.specs.Queue.{Notice, Operation, post, take, Words, run, end, Ring, ringStep, size, sizes, queueStep, flat, wentIn, cameOut, allIn, allOut}
+use Rattle.notice.specs.Queue.{Notice, Operation, postOf, takeTo, Words, run, end, Ring, ringStep, size, sizes, queueStep, flat, wentIn, cameOut, allIn, allOut}
 use Rattle.notice.specs.Statements.{Capacity, empty, RingIsQueue, PostedIsTaken, AllTaken, PostChanges, TakeChanges, DamagedStays}
 use Rattle.notice.specs.declared.Positions.{Positions}
 use Rattle.notice.specs.declared.Reason.the-variants.{Damaged, OutputShort}
 use Rattle.notice.specs.declared.Taken.the-variants.{Notice as Got, Refused as NotTaken}
 use Rattle.notice.proofs.Turning.{length-turned, length-stored, turned-stored}
-use Rattle.notice.proofs.Answers.{good, between, waits-between, waits-round, waits-less, moved-inside, moved-past, room-left, post-stored, accepted, within-waiting, take-damaged, take-notice, answered}
+use Rattle.notice.proofs.Answers.{good, between, waits-between, waits-round, waits-less, moved-inside, moved-past, room-left, accepted, within-waiting, take-damaged, answered}
 use Rattle.notice.proofs.Queue.{length-notice, length-flat, moved-none, post-stands, Holds, Keeps, waits, post-keeps, take-keeps}
 
 first-word : (op : Operation) (ops : List Operation) → Words (op ∷ ops) → Words (op ∷ [])
-first-word (post n) ops w = (w .0, tt)
-first-word (take out) ops w = tt
+first-word (postOf n) ops w = (w .0, tt)
+first-word (takeTo out) ops w = tt
 
 other-words : (op : Operation) (ops : List Operation) → Words (op ∷ ops) → Words ops
-other-words (post n) ops w = w .1
-other-words (take out) ops w = w
+other-words (postOf n) ops w = w .1
+other-words (takeTo out) ops w = w
 
 keeps : (r : Ring) (q : List Notice) (op : Operation) → Holds r q → Words (op ∷ []) → Keeps r (ringStep r op) (queueStep (length (r .bytes)) q op)
-keeps r q (post n) h w = post-keeps r q h n (w .0)
-keeps r q (take out) h w = take-keeps r q h out
+keeps r q (postOf n) h w = post-keeps r q h n (w .0)
+keeps r q (takeTo out) h w = take-keeps r q h out
 
 -- a list of operations is seen alike on both, and at the end the relation still holds
 record Alike (r : Ring) (q : List Notice) (ops : List Operation) : Type 0 where
@@ -56,18 +56,18 @@ alike r q (op ∷ ops) h w =
 -- the queue alone: what waits and goes in is what comes out and what is left
 one-in-order : (c : ℕ) (q : List Notice) (op : Operation)
     → q ++ wentIn op (queueStep c q op .seen) ≡ cameOut (queueStep c q op .seen) ++ queueStep c q op .next
-one-in-order c q (post n) = go (ltb dataMax (length (n .body))) refl (ltb (c - 1 - sizes q) (size n)) refl
+one-in-order c q (postOf n) = go (ltb dataMax (length (n .body))) refl (ltb (c - 1 - sizes q) (size n)) refl
   where
     go : (x : Bool) → ltb dataMax (length (n .body)) ≡ x → (y : Bool) → ltb (c - 1 - sizes q) (size n) ≡ y
-        → q ++ wentIn (post n) (queueStep c q (post n) .seen) ≡ cameOut (queueStep c q (post n) .seen) ++ queueStep c q (post n) .next
+        → q ++ wentIn (postOf n) (queueStep c q (postOf n) .seen) ≡ cameOut (queueStep c q (postOf n) .seen) ++ queueStep c q (postOf n) .next
     go true e y f = rw e (append-nil q)
     go false e true f = rw (e, f) (append-nil q)
     go false e false f = rw (e, f)
-one-in-order c [] (take out) = refl
-one-in-order c (n ∷ q) (take out) = go (ltb (length out) (length (n .body))) refl
+one-in-order c [] (takeTo out) = refl
+one-in-order c (n ∷ q) (takeTo out) = go (ltb (length out) (length (n .body))) refl
   where
     go : (x : Bool) → ltb (length out) (length (n .body)) ≡ x
-        → (n ∷ q) ++ wentIn (take out) (queueStep c (n ∷ q) (take out) .seen) ≡ cameOut (queueStep c (n ∷ q) (take out) .seen) ++ queueStep c (n ∷ q) (take out) .next
+        → (n ∷ q) ++ wentIn (takeTo out) (queueStep c (n ∷ q) (takeTo out) .seen) ≡ cameOut (queueStep c (n ∷ q) (takeTo out) .seen) ++ queueStep c (n ∷ q) (takeTo out) .next
     go true e = rw e (append-nil (n ∷ q))
     go false e =
         let body-is = take-at (n .body) (drop (length (n .body)) out) (length (n .body)) refl in
@@ -151,7 +151,6 @@ post-changes ring at id body next e =
     let bs = noticeOf id body in
     let len = length-notice (record { id = id; body = body }) in
     let room = room-left c at (length body) (known .fits) in
-    let answer = post-stored ring at id body (known .ok) (known .small) (known .fits) in
     let seen = turned (at .read) ring in
     let standing = ListN.take (waiting c at) seen in
     let some = waits-less c at (legal .read) (legal .write) in
@@ -176,7 +175,6 @@ take-changes ring at out id n next e =
     let c = length ring in
     let known = answered ring at out id n next e in
     let legal = good c at (known .ok) in
-    let answer = take-notice ring at out (known .ok) (known .some) (known .sound) (known .room) in
     let n-is : n ≡ lengthAt ring at = cc in
     let waits = within-waiting ring at (known .sound) in
     let some = waits-less c at (legal .read) (legal .write) in

@@ -22,8 +22,8 @@ pub record Notice : Type 0 where
 
 -- a post of a notice, or a take to this output
 pub data Operation : Type 0 where
-  post : Notice → Operation
-  take : List ℕ → Operation
+  postOf : Notice → Operation
+  takeTo : List ℕ → Operation
 
 -- what the caller sees of one: of a take also the whole output as it stands then
 pub data Seen : Type 0 where
@@ -35,8 +35,8 @@ pub data Seen : Type 0 where
 -- the Notify IDs are of 32 bits, as each `u32` is
 abbrev pub Words : List Operation → Type 0
 Words [] = Unit {0}
-Words (post n ∷ ops) = (n .id < 2 ^ 32) × Words ops
-Words (take out ∷ ops) = Words ops
+Words (postOf n ∷ ops) = (n .id < 2 ^ 32) × Words ops
+Words (takeTo out ∷ ops) = Words ops
 
 -- an operation on a state: what is seen, and the state after it
 pub record Step (S : Type 0) : Type 0 where
@@ -73,8 +73,8 @@ takeStep (Got id n next) r out =
 takeStep (NotTaken reason) r out = record { seen = nothing reason (outputAfter (NotTaken reason) (r .bytes) (r .at) out); next = r }
 
 abbrev pub ringStep : Ring → Operation → Step Ring
-ringStep r (post n) = postStep (posted (r .bytes) (r .at) (n .id) (n .body)) r n
-ringStep r (take out) = takeStep (takenOf (r .bytes) (r .at) out) r out
+ringStep r (postOf n) = postStep (posted (r .bytes) (r .at) (n .id) (n .body)) r n
+ringStep r (takeTo out) = takeStep (takenOf (r .bytes) (r .at) out) r out
 
 -- The queue: notices, the oldest first, of which at most C − 1 bytes wait.
 abbrev pub size : Notice → ℕ
@@ -97,8 +97,8 @@ queueTake (n ∷ q) out =
     (record { seen = given (n .id) (length (n .body)) (n .body ++ drop (length (n .body)) out); next = q })
 
 abbrev pub queueStep : ℕ → List Notice → Operation → Step (List Notice)
-queueStep c q (post n) = queuePost c q n
-queueStep c q (take out) = queueTake q out
+queueStep c q (postOf n) = queuePost c q n
+queueStep c q (takeTo out) = queueTake q out
 
 -- notices laid end to end
 unfoldable pub flat : List Notice → List ℕ
@@ -107,11 +107,11 @@ flat (n ∷ q) = noticeOf (n .id) (n .body) ++ flat q
 
 -- the notices that went in, and those that came out: of a take, Notify ID and the output's first bytes
 abbrev pub wentIn : Operation → Seen → List Notice
-wentIn (post n) accepted = n ∷ []
-wentIn (post n) (rejected reason) = []
-wentIn (post n) (given id k out) = []
-wentIn (post n) (nothing reason out) = []
-wentIn (take out) seen = []
+wentIn (postOf n) accepted = n ∷ []
+wentIn (postOf n) (rejected reason) = []
+wentIn (postOf n) (given id k out) = []
+wentIn (postOf n) (nothing reason out) = []
+wentIn (takeTo out) seen = []
 
 abbrev pub cameOut : Seen → List Notice
 cameOut accepted = []

@@ -30,13 +30,35 @@ dataMax = 1024
 abbrev pub headerSize : ℕ
 headerSize = 8
 
+-- the capacities
+abbrev pub ringMin : ℕ
+ringMin = 16
+
+abbrev pub ringMax : ℕ
+ringMax = 65536
+
+abbrev pub ringUnit : ℕ
+ringUnit = 8
+
 -- 20: "C below 16, above 65,536, not a multiple of 8, or a position not below C"
+abbrev pub isSmall : ℕ → Bool
+isSmall c = ltb c ringMin
+
+abbrev pub isLarge : ℕ → Bool
+isLarge c = ltb ringMax c
+
+abbrev pub isUneven : ℕ → Bool
+isUneven c = not (eqb (c % ringUnit) 0)
+
+abbrev pub isOutside : ℕ → ℕ → Bool
+isOutside c position = leb c position
+
 unfoldable pub badRing : ℕ → Positions → Bool
 badRing c at =
-    ltb c 16
-    || (ltb 65536 c
-    || (not (eqb (c % 8) 0)
-    || (leb c (at .read) || leb c (at .write))))
+    isSmall c
+    || (isLarge c
+    || (isUneven c
+    || (isOutside c (at .read) || isOutside c (at .write))))
 
 -- what waits ends before the ring does; else it runs past the last byte to the first
 abbrev pub isBetween : Positions → Bool
@@ -98,11 +120,14 @@ abbrev pub lengthAt : List ℕ → Positions → ℕ
 lengthAt ring at = word 4 (drop 4 (turned (at .read) ring))
 
 -- 22: "fewer than 8 bytes wait, length over 1,024, or length over waiting − 8"
+abbrev pub lacksHeader : List ℕ → Positions → Bool
+lacksHeader ring at = ltb (waiting (length ring) at) headerSize
+
+abbrev pub lacksData : List ℕ → Positions → Bool
+lacksData ring at = ltb (waiting (length ring) at - headerSize) (lengthAt ring at)
+
 abbrev pub damaged : List ℕ → Positions → Bool
-damaged ring at =
-    ltb (waiting (length ring) at) headerSize
-    || (isLong (lengthAt ring at)
-    || ltb (waiting (length ring) at - headerSize) (lengthAt ring at))
+damaged ring at = lacksHeader ring at || (isLong (lengthAt ring at) || lacksData ring at)
 
 -- 23: "output shorter than the data"
 abbrev pub isShort : List ℕ → Positions → List ℕ → Bool

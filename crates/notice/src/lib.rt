@@ -6,7 +6,7 @@ ghost use mathlib.Core.List.{_++_};
 ghost use lib.ListN.{length, drop};
 ghost use lib.ListN as ListN;
 ghost use Rattle.le.specs.Word.{word, bytes};
-ghost use Rattle.notice.specs.Ring.{numberOf, headerSize, badRing, waiting, isFull, moved, turned, stored, posted, ringAfter, takenOf, outputAfter};
+ghost use Rattle.notice.specs.Ring.{numberOf, headerSize, ringMax, badRing, waiting, isFull, moved, turned, stored, posted, ringAfter, takenOf, outputAfter};
 
 // Where the oldest notice starts, and where the next one will: offsets in the ring. Equal means empty.
 pub struct Positions {
@@ -46,10 +46,12 @@ pub enum Taken {
 pub const HEADER_SIZE: usize = 8;
 // The longest data.
 pub const DATA_MAX: usize = 1024;
-// The smallest and the largest capacity. Each capacity is a multiple of 8.
+// The smallest and the largest capacity, and of what each is a multiple.
 pub const RING_MIN: usize = 16;
 
 pub const RING_MAX: usize = 65536;
+
+pub const RING_UNIT: usize = 8;
 
 impl Reason {
     // The refusal's number.
@@ -77,7 +79,7 @@ fn is_bad(c: usize, at: Positions) -> bool
     if RING_MAX < c {
         return true;
     }
-    if c % 8 != 0 {
+    if c % RING_UNIT != 0 {
         return true;
     }
     if c <= at.read {
@@ -88,7 +90,7 @@ fn is_bad(c: usize, at: Positions) -> bool
 
 // How many bytes wait.
 fn count_waiting(c: usize, at: Positions) -> usize
-    requires { ⌜ (at .read < c) × (at .write < c) × (c ≤ 65536) ⌝ }
+    requires { ⌜ (at .read < c) × (at .write < c) × (c ≤ ringMax) ⌝ }
     ensures { λ r. ⌜ r ≡ waiting c at ⌝ }
 {
     if at.read <= at.write {
@@ -99,7 +101,7 @@ fn count_waiting(c: usize, at: Positions) -> usize
 
 // Whether a notice with n bytes of data does not fit what is free.
 fn lacks_room(c: usize, at: Positions, n: usize) -> bool
-    requires { ⌜ (at .read < c) × (at .write < c) × (c ≤ 65536) ⌝ }
+    requires { ⌜ (at .read < c) × (at .write < c) × (c ≤ ringMax) ⌝ }
     ensures { λ r. ⌜ r ≡ isFull c at n ⌝ }
 {
     let free = c - 1 - count_waiting(c, at);
@@ -111,7 +113,7 @@ fn lacks_room(c: usize, at: Positions, n: usize) -> bool
 
 // A position moved on by n, past the last byte to the first.
 fn move_on(c: usize, at: usize, n: usize) -> usize
-    requires { ⌜ (at < c) × (n ≤ c) × (c ≤ 65536) ⌝ }
+    requires { ⌜ (at < c) × (n ≤ c) × (c ≤ ringMax) ⌝ }
     ensures { λ r. ⌜ r ≡ moved c at n ⌝ }
 {
     let next = at + n;

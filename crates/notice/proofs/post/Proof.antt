@@ -9,7 +9,7 @@ use native.Mathlib.Omega.{arith}
 use lib.ListN.{length, length-append}
 use Rattle.le.specs.Word.{bytes}
 use Rattle.le.proofs.Words.{length-bytes}
-use Rattle.notice.specs.Ring.{headerSize, badRing, isFull, moved, stored, noticeOf}
+use Rattle.notice.specs.Ring.{headerSize, ringMin, badRing, isFull, moved, stored, noticeOf}
 use Rattle.notice.specs.declared.Posted.the-variants.{Stored}
 use Rattle.notice.proofs.Turning.{moved-below, length-stored, stored-join}
 use Rattle.notice.proofs.Answers.{Good, good, room-left, post-bad, post-long, post-full, post-stored}
@@ -41,7 +41,7 @@ whole c =
 at-most : (n a b : ℕ) → a ≡ b → n ≤ b → n ≤ a
 at-most n a b e h = omega arith
 
-head-fits : (n size : ℕ) → n ≡ headerSize → 16 ≤ size → n ≤ size
+head-fits : (n size : ℕ) → n ≡ headerSize → ringMin ≤ size → n ≤ size
 head-fits n size e h = omega arith
 
 -- the header is of eight bytes

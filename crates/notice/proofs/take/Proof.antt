@@ -1,19 +1,19 @@
 -- `notice::take` meets its contract: at each `return` the tests that led there say which answer it is.
 -- Assumes nothing.
 use Prim.Native.Nat.{ℕ, _+_, _-_, _≤_, _<_}
-use mathlib.Core.Bool.{false}
-use mathlib.Core.Path.{_≡_, refl, sym, ap, _∙_}
+use mathlib.Core.Bool.{true, false}
+use mathlib.Core.Path.{_≡_, refl, sym, ap, ap₂, _∙_}
 use mathlib.Core.List.{List, _++_}
 use native.Mathlib.Nat.{le-of-lt}
 use native.Mathlib.Omega.{arith}
 use borrow.Author.Tests.{lt-ltb, le-ltb, eq-eqb, ne-eqb}
+use lib.Dec.{ltb}
 use lib.ListN.{length, drop, length-take, length-drop}
 use lib.ListN as ListN
 use lib.Seq.{take-append-le}
-use Rattle.notice.specs.Ring.{dataMax, headerSize, badRing, waiting, isEmpty, isLong, moved, turned, lengthAt, damaged}
-use Rattle.notice.specs.declared.Taken.the-variants.{Notice}
+use Rattle.notice.specs.Ring.{headerSize, badRing, isEmpty, isLong, moved, turned, lengthAt, lacksHeader, damaged}
 use Rattle.notice.proofs.Turning.{moved-below, length-turned, turned-moved}
-use Rattle.notice.proofs.Answers.{Good, good, waits-less, few-wait, over-long, past-waiting, undamaged, take-bad, take-empty, take-damaged, take-short, take-notice, notice-same}
+use Rattle.notice.proofs.Answers.{Good, good, waits-less, by-data, within-waiting, take-bad, take-empty, take-damaged, take-short, take-notice, notice-same}
 use borrow.Author.Needs.{needs}
 use Rattle.notice.proofs.take.Statement.{statement}
 use Rattle.notice.proofs.take.Tie as tie
@@ -35,30 +35,33 @@ at-legal c = c .before .before .before .before .before
 some-wait : (c : tie.After-read-head) → isEmpty (start (at-legal c) .args .at) ≡ false
 some-wait c = ne-eqb _ _ (c .before .before .before .if2 .left)
 
-head-waits : (c : tie.After-read-head) → headerSize ≤ waiting (length (start (at-legal c) .args .ring .now)) (start (at-legal c) .args .at)
-head-waits c = rw (← c .before .before .count-waiting .ensures) (c .before .if3 .left)
+head-waits : (c : tie.After-read-head) → lacksHeader (start (at-legal c) .args .ring .now) (start (at-legal c) .args .at) ≡ false
+head-waits c = rw (← c .before .before .count-waiting .ensures) (le-ltb _ _ (c .before .if3 .left))
 
 -- the Data Length is legal, and so much waits
 small : (c : tie.Else4) → isLong (lengthAt (start (at-legal (c .before)) .args .ring .now) (start (at-legal (c .before)) .args .at)) ≡ false
 small c = rw (← c .before .read-head .ensures .1) (le-ltb _ _ (c .if4 .left))
 
-whole : (c : tie.Else5)
-    → lengthAt (start (at-legal (c .before .before)) .args .ring .now) (start (at-legal (c .before .before)) .args .at)
-    ≤ waiting (length (start (at-legal (c .before .before)) .args .ring .now)) (start (at-legal (c .before .before)) .args .at) - headerSize
-whole c = rw (← c .before .before .before .before .count-waiting .ensures, ← c .before .before .read-head .ensures .1) (c .if5 .left)
+by-rest : (c : tie.Else4)
+    → let args = start (at-legal (c .before)) .args in damaged (args .ring .now) (args .at)
+    ≡ ltb (c .before .before .before .count-waiting .result - headerSize) (c .before .read-head .result .n)
+by-rest c =
+    let args = start (at-legal (c .before)) .args in
+    by-data (args .ring .now) (args .at) (head-waits (c .before)) (small c)
+    ∙ ap₂ (λ (waits n : ℕ). ltb (waits - headerSize) n) (sym (c .before .before .before .count-waiting .ensures)) (sym (c .before .read-head .ensures .1))
 
 sound : (c : tie.Else5) → damaged (start (at-legal (c .before .before)) .args .ring .now) (start (at-legal (c .before .before)) .args .at) ≡ false
-sound c =
-    let args = start (at-legal (c .before .before)) .args in undamaged (args .ring .now) (args .at) (head-waits (c .before .before)) (small (c .before)) (whole c)
-
-room-of : {n m waits size : ℕ} → n ≡ m → m ≤ waits - headerSize → headerSize ≤ waits → waits < size → headerSize + n ≤ size
-room-of e h l w = omega arith
+sound c = by-rest (c .before) ∙ le-ltb _ _ (c .if5 .left)
 
 within : (c : tie.Else6) → headerSize + c .before .before .before .read-head .result .n ≤ length (start (at-legal (c .before .before .before)) .args .ring .now)
 within c =
     let head = c .before .before .before in
     let known = legal (at-legal head) in
-    room-of (head .read-head .ensures .1) (whole (c .before)) (head-waits head) (waits-less _ _ (known .read) (known .write))
+    let args = start (at-legal head) .args in
+    let n-is = head .read-head .ensures .1 in
+    let waits = within-waiting (args .ring .now) (args .at) (sound (c .before)) in
+    let some = waits-less (length (args .ring .now)) (args .at) (known .read) (known .write) in
+    omega arith
 
 -- the lent part of the output
 part-length : (n : ℕ) (out : List ℕ) → n ≤ length out → length (ListN.take n out) ≡ n
@@ -98,8 +101,8 @@ count-waiting-requires c κs =
 returns-3 : tie.Need-returns-3
 returns-3 c =
     let args = start (c .before .before .before .before) .args in
-    let few : waiting (length (args .ring .now)) (args .at) < headerSize = rw (← c .before .count-waiting .ensures) (c .if3 .taken) in
-    (sym (take-damaged (args .ring .now) (args .at) (args .out .now) (ok (c .before .before .before .before)) (ne-eqb _ _ (c .before .before .if2 .left)) (few-wait (args .ring .now) (args .at) few)), refl)
+    let is : lacksHeader (args .ring .now) (args .at) ≡ true = rw (← c .before .count-waiting .ensures) (lt-ltb _ _ (c .if3 .taken)) in
+    (sym (take-damaged (args .ring .now) (args .at) (args .out .now) (ok (c .before .before .before .before)) (ne-eqb _ _ (c .before .before .if2 .left)) (rw is)), refl)
 
 read-head-requires : tie.Need-read-head-requires
 read-head-requires c κs =
@@ -108,17 +111,14 @@ read-head-requires c κs =
 returns-4 : tie.Need-returns-4
 returns-4 c =
     let args = start (at-legal (c .before)) .args in
-    let over : dataMax < lengthAt (args .ring .now) (args .at) = rw (← c .before .read-head .ensures .1) (c .if4 .taken) in
-    let long = over-long (args .ring .now) (args .at) (head-waits (c .before)) (lt-ltb _ _ over) in
-    (sym (take-damaged (args .ring .now) (args .at) (args .out .now) (ok (at-legal (c .before))) (some-wait (c .before)) long), refl)
+    let is : isLong (lengthAt (args .ring .now) (args .at)) ≡ true = rw (← c .before .read-head .ensures .1) (lt-ltb _ _ (c .if4 .taken)) in
+    (sym (take-damaged (args .ring .now) (args .at) (args .out .now) (ok (at-legal (c .before))) (some-wait (c .before)) (rw (head-waits (c .before), is))), refl)
 
 returns-5 : tie.Need-returns-5
 returns-5 c =
     let args = start (at-legal (c .before .before)) .args in
-    let beyond : waiting (length (args .ring .now)) (args .at) - headerSize < lengthAt (args .ring .now) (args .at) =
-    rw (← c .before .before .before .before .count-waiting .ensures, ← c .before .before .read-head .ensures .1) (c .if5 .taken) in
-    let past = past-waiting (args .ring .now) (args .at) (head-waits (c .before .before)) (small (c .before)) beyond in
-    (sym (take-damaged (args .ring .now) (args .at) (args .out .now) (ok (at-legal (c .before .before))) (some-wait (c .before .before)) past), refl)
+    let is = by-rest (c .before) ∙ lt-ltb _ _ (c .if5 .taken) in
+    (sym (take-damaged (args .ring .now) (args .at) (args .out .now) (ok (at-legal (c .before .before))) (some-wait (c .before .before)) is), refl)
 
 returns-6 : tie.Need-returns-6
 returns-6 c =
