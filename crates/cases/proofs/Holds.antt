@@ -12,7 +12,8 @@ use Rattle.reassembly.specs.Run.{answers}
 use Rattle.notice.specs.Ring.{badRing, waiting, moved, posted, takenOf}
 use Rattle.notice.specs.Queue.{run, end}
 use Rattle.ubios.specs.Layout.{upToZero}
-use Rattle.ubios.specs.Checks.{outside, badSize, judged, checked, rootJudged, rootChecked}
+use Rattle.region.specs.Region.{outside}
+use Rattle.ubios.specs.Checks.{badSize, judged, checked, rootJudged, rootChecked}
 use Rattle.sfi.specs.Kinds.{among}
 use Rattle.sfi.specs.Checks.{badLength, badEntries, judged as sfiJudged, checked as sfiChecked}
 use Rattle.cases.specs.Cases.{isCount, isLength, holds, allHold, starred, StarredHold, LogHoldsFrames}

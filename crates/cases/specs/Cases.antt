@@ -106,7 +106,7 @@ holds (leaves ops read write expected) =
     && (eqb (end ringStep (empty 0 (replicate 16 0)) ops .at .write) write
     && same (end ringStep (empty 0 (replicate 16 0)) ops .bytes) expected)
 holds (checksums k head behind expected) = eqb (checksumOf k head behind) expected
-holds (roots s expected) = eqb (rootRefusal (Checks.rootChecked 4096 s 4096)) expected
+holds (roots s expected) = eqb (rootRefusal (Checks.rootChecked s 4096 4096)) expected
 holds (sfiTables s expected) = eqb (sfiRefusal (SfiChecks.checked s)) expected
 
 unfoldable pub allHold : List Case → Bool

@@ -217,8 +217,8 @@ pub extern "C" fn hs_ubios_table(
     address: u64,
     part: &mut [usize; 2],
 ) -> u32
-    ensures { λ r. ⌜ r ≡ tableNumber (checked tableHeader base (now (region .entry)) address) ⌝ }
-    ensures { λ _. ⌜ now (part .exit) ≡ partAfter (checked tableHeader base (now (region .entry)) address) (now (part .entry)) ⌝ }
+    ensures { λ r. ⌜ r ≡ tableNumber (checked tableHeader (now (region .entry)) base address) ⌝ }
+    ensures { λ _. ⌜ now (part .exit) ≡ partAfter (checked tableHeader (now (region .entry)) base address) (now (part .entry)) ⌝ }
 {
     match ubios::Table::check(region, base, address) {
         Checked::Refused(reason) => reason.number(),
@@ -237,8 +237,8 @@ pub extern "C" fn hs_ubios_root(
     address: u64,
     root: &mut [usize; 3],
 ) -> u32
-    ensures { λ r. ⌜ r ≡ rootNumber (rootChecked base (now (region .entry)) address) ⌝ }
-    ensures { λ _. ⌜ now (root .exit) ≡ rootPartAfter (rootChecked base (now (region .entry)) address) (now (root .entry)) ⌝ }
+    ensures { λ r. ⌜ r ≡ rootNumber (rootChecked (now (region .entry)) base address) ⌝ }
+    ensures { λ _. ⌜ now (root .exit) ≡ rootPartAfter (rootChecked (now (region .entry)) base address) (now (root .entry)) ⌝ }
 {
     match ubios::Root::check(region, base, address) {
         RootChecked::Refused(reason) => reason.number(),
@@ -260,8 +260,8 @@ pub extern "C" fn hs_ubios_find(
     name: &[u8],
     body: &mut [usize; 3],
 ) -> u32
-    ensures { λ r. ⌜ r ≡ findNumber (found base (now (region .entry)) root (now (name .entry))) ⌝ }
-    ensures { λ _. ⌜ now (body .exit) ≡ bodyAfter (found base (now (region .entry)) root (now (name .entry))) (now (body .entry)) ⌝ }
+    ensures { λ r. ⌜ r ≡ findNumber (found (now (region .entry)) base root (now (name .entry))) ⌝ }
+    ensures { λ _. ⌜ now (body .exit) ≡ bodyAfter (found (now (region .entry)) base root (now (name .entry))) (now (body .entry)) ⌝ }
 {
     match ubios::lookup::find(region, base, root, name) {
         Found::Refused(reason) => reason.number(),

@@ -1,6 +1,6 @@
 -- The laws of the checks: one for each answer, with what leads there.
 -- Assumes nothing.
-use Prim.Native.Nat.{ℕ, _+_, _*_, _-_, _%_, _^_, _≤_, _<_}
+use Prim.Native.Nat.{ℕ, _+_, _*_, _-_, _%_, _≤_, _<_}
 use mathlib.Core.Bool.{true, false, not}
 use mathlib.Core.Path.{_≡_, refl, subst, _∙_}
 use mathlib.Core.List.{List}
@@ -10,11 +10,13 @@ use lib.Dec.{ltb, eqb}
 use lib.ListN.{length}
 use Rattle.le.specs.Compare.{same}
 use Rattle.le.specs.Sum.{sum}
-use Rattle.le.proofs.Tests.{apart, neither, past, either, agree}
+use Rattle.le.proofs.Tests.{apart, neither, past, either}
 use Rattle.le.proofs.Comparing.{same-true}
+use Rattle.region.specs.Region.{outside}
+use Rattle.region.proofs.Answers.{not-outside}
 use Rattle.ubios.specs.Layout.{rootHeader, totalMax, countMax, version, nameOf, totalOf, versionOf, remainingOf, usedOf, summedPart, rootName, countOf}
-use Rattle.ubios.specs.Checks.{numberOf, tableAt, outside, badSize, judged, checked, badCount, rootJudged, rootAfter, rootChecked}
-use Rattle.ubios.specs.Statements.{Inside, Sized, PassesOnly, Rooted, RootPassesOnly, RootRefusals}
+use Rattle.ubios.specs.Checks.{numberOf, tableAt, badSize, judged, checked, badCount, rootJudged, rootAfter, rootChecked}
+use Rattle.ubios.specs.Statements.{Sized, PassesOnly, Rooted, RootPassesOnly, RootRefusals}
 use Rattle.ubios.specs.declared.Table.{Table}
 use Rattle.ubios.specs.declared.Reason.{Reason}
 use Rattle.ubios.specs.declared.Reason.the-variants.{Outside, Misaligned, BadSize, WrongVersion, WrongSum, NotRoot, BadCount}
@@ -22,46 +24,6 @@ use Rattle.ubios.specs.declared.Checked.{Checked}
 use Rattle.ubios.specs.declared.Checked.the-variants.{Passed, Refused}
 use Rattle.ubios.specs.declared.RootChecked.{RootChecked}
 use Rattle.ubios.specs.declared.RootChecked.the-variants.{Passed as RootPassed, Refused as RootRefused}
-
--- a region that runs past 2^64 has its last byte behind the last address
-pub past-last : (base size : ℕ) → base < 2 ^ 64 → 0 < size → ltb (2 ^ 64 - 1 - base) (size - 1) ≡ ltb (2 ^ 64) (base + size)
-past-last base size h some = agree (2 ^ 64 - 1 - base) (size - 1) (2 ^ 64) (base + size) (λ l. omega arith) (λ l. omega arith)
-
--- which headers are outside
-module _ (header base size address : ℕ) where
-  pub past-the-top : 2 ^ 64 < base + size → outside header base size address ≡ true
-  unfolding outside
-  past-the-top h = rw (lt-ltb (2 ^ 64) (base + size) h)
-
-  module _ (below : base + size ≤ 2 ^ 64) where
-    by-end : base ≤ address → outside header base size address ≡ ltb (base + size) (address + header)
-    unfolding outside
-    by-end h = rw (le-ltb (2 ^ 64) (base + size) below, le-ltb address base h)
-
-    pub before-region : address < base → outside header base size address ≡ true
-    unfolding outside
-    before-region h = rw (le-ltb (2 ^ 64) (base + size) below, lt-ltb address base h)
-
-    pub behind-region : base ≤ address → size < address - base → outside header base size address ≡ true
-    behind-region h far = by-end h ∙ lt-ltb (base + size) (address + header) (omega arith)
-
-    pub by-room : base ≤ address → address - base ≤ size → outside header base size address ≡ ltb (size - (address - base)) header
-    by-room h near = by-end h ∙ agree (base + size) (address + header) (size - (address - base)) header (λ l. omega arith) (λ l. omega arith)
-
-    pub not-outside : base ≤ address → address + header ≤ base + size → outside header base size address ≡ false
-    not-outside h e = by-end h ∙ le-ltb (base + size) (address + header) e
-
--- what is known of a header that is not
-pub inside : (header base size address : ℕ) → outside header base size address ≡ false → Inside header base size address
-unfolding outside
-inside header base size address e =
-    let p = neither (ltb (2 ^ 64) (base + size)) _ e in
-    let q = neither (ltb address base) _ (p .1) in
-    record {
-      top = ltb-false (2 ^ 64) (base + size) (p .0);
-      start = ltb-false address base (q .0);
-      end = ltb-false (base + size) (address + header) (q .1);
-    }
 
 -- which sizes are bad
 module _ (header size total remaining : ℕ) where
@@ -121,33 +83,33 @@ module _ (header at : ℕ) (t : List ℕ) where
       judged-passed e = rw (size, eq-eqb (versionOf t) version one, eq-eqb (sum 4 (summedPart t)) 0 e)
 
 -- 31, 30, and what is left to them
-module _ (header base : ℕ) (region : List ℕ) (address : ℕ) where
-  pub misaligned : (address % 8 ≡ 0 → ⊥) → checked header base region address ≡ Refused Misaligned
+module _ (header : ℕ) (region : List ℕ) (base address : ℕ) where
+  pub misaligned : (address % 8 ≡ 0 → ⊥) → checked header region base address ≡ Refused Misaligned
   unfolding checked
   misaligned ne = rw (ne-eqb (address % 8) 0 ne)
 
   module _ (aligned : address % 8 ≡ 0) where
-    pub is-outside : outside header base (length region) address ≡ true → checked header base region address ≡ Refused Outside
+    pub is-outside : outside header (length region) base address ≡ true → checked header region base address ≡ Refused Outside
     unfolding checked
     is-outside e = rw (eq-eqb (address % 8) 0 aligned, e)
 
-    pub is-inside : outside header base (length region) address ≡ false
-        → checked header base region address ≡ judged header (address - base) (tableAt base region address)
+    pub held : outside header (length region) base address ≡ false
+        → checked header region base address ≡ judged header (address - base) (tableAt region base address)
     unfolding checked
-    is-inside e = rw (eq-eqb (address % 8) 0 aligned, e)
+    held e = rw (eq-eqb (address % 8) 0 aligned, e)
 
 pub passes-only : PassesOnly
 unfolding checked judged
-passes-only header base region address table e =
-    let t = tableAt base region address in
+passes-only header region base address table e =
+    let t = tableAt region base address in
     let a = past (not (eqb (address % 8) 0)) (λ q. apart (cc)) e in
-    let o = past (outside header base (length region) address) (λ q. apart (cc)) (a .1) in
+    let o = past (outside header (length region) base address) (λ q. apart (cc)) (a .1) in
     let s = past (badSize header (length t) (totalOf t) (remainingOf t)) (λ q. apart (cc)) (o .1) in
     let v = past (not (eqb (versionOf t) version)) (λ q. apart (cc)) (s .1) in
     let z = past (not (eqb (sum 4 (summedPart t)) 0)) (λ q. apart (cc)) (v .1) in
     record {
       aligned = eqb-true (address % 8) 0 (not-false _ (a .0));
-      inside = inside header base (length region) address (o .0);
+      inside = not-outside header (length region) base address (o .0);
       sized = sized header (length t) (totalOf t) (remainingOf t) (s .0);
       one = eqb-true (versionOf t) version (not-false _ (v .0));
       zero = eqb-true (sum 4 (summedPart t)) 0 (not-false _ (z .0));
@@ -155,14 +117,14 @@ passes-only header base region address table e =
     }
 
 -- a passing table's header lies in the region and in its used part
-pub header-fits : (header base : ℕ) (region : List ℕ) (address : ℕ) (table : Table) → checked header base region address ≡ Passed table → table .at + header ≤ length region
-header-fits header base region address table e =
-    let p = passes-only header base region address table e in
+pub header-fits : (header : ℕ) (region : List ℕ) (base address : ℕ) (table : Table) → checked header region base address ≡ Passed table → table .at + header ≤ length region
+header-fits header region base address table e =
+    let p = passes-only header region base address table e in
     rw (p .is) (omega (arith, p .inside .start, p .inside .end))
 
-pub header-used : (header base : ℕ) (region : List ℕ) (address : ℕ) (table : Table) → checked header base region address ≡ Passed table → header ≤ table .used
-header-used header base region address table e =
-    let p = passes-only header base region address table e in
+pub header-used : (header : ℕ) (region : List ℕ) (base address : ℕ) (table : Table) → checked header region base address ≡ Passed table → header ≤ table .used
+header-used header region base address table e =
+    let p = passes-only header region base address table e in
     rw (p .is) (omega (arith, p .sized .holds, p .sized .left))
 
 -- 35, 36, and the root
@@ -181,33 +143,33 @@ module _ (table : Table) (t : List ℕ) where
     unfolding rootJudged
     root-passed e = rw (named, ← read, e)
 
-module _ (base : ℕ) (region : List ℕ) (address : ℕ) where
-  pub root-refused : (reason : Reason) → checked rootHeader base region address ≡ Refused reason → rootChecked base region address ≡ RootRefused reason
+module _ (region : List ℕ) (base address : ℕ) where
+  pub root-refused : (reason : Reason) → checked rootHeader region base address ≡ Refused reason → rootChecked region base address ≡ RootRefused reason
   unfolding rootChecked
   root-refused reason e = rw e
 
-  pub root-judged : (table : Table) → checked rootHeader base region address ≡ Passed table
-      → rootChecked base region address ≡ rootJudged table (tableAt base region address)
+  pub root-judged : (table : Table) → checked rootHeader region base address ≡ Passed table
+      → rootChecked region base address ≡ rootJudged table (tableAt region base address)
   unfolding rootChecked
   root-judged table e = rw e
 
 pub root-passes-only : RootPassesOnly
 unfolding rootChecked rootJudged
-root-passes-only base region address root e = go (checked rootHeader base region address) refl e
+root-passes-only region base address root e = go (checked rootHeader region base address) refl e
   where
     t : List ℕ
-    t = tableAt base region address
+    t = tableAt region base address
 
-    go : (c : Checked) → checked rootHeader base region address ≡ c → rootAfter c t ≡ RootPassed root → Rooted base region address root
+    go : (c : Checked) → checked rootHeader region base address ≡ c → rootAfter c t ≡ RootPassed root → Rooted region base address root
     go (Refused reason) p q = apart (cc)
     go (Passed table) p q =
         let n = past (not (same (nameOf t) rootName)) (λ z. apart (cc)) q in
         let c = past (badCount (table .used) (countOf t)) (λ z. apart (cc)) (n .1) in
         let is : record { table = table; count = countOf t } ≡ root = let all = c .1 in cc in
         let slots = neither (ltb countMax (countOf t)) _ (c .0) in
-        subst (Rooted base region address) is
+        subst (Rooted region base address) is
         (record {
-          table = passes-only rootHeader base region address table p;
+          table = passes-only rootHeader region base address table p;
           named = same-true (nameOf t) rootName (not-false _ (n .0));
           few = omega (arith, ltb-false countMax (countOf t) (slots .0));
           room = ltb-false (table .used) (rootHeader + 8 * countOf t) (slots .1);
@@ -221,18 +183,18 @@ Numbered (RootRefused reason) = (30 ≤ numberOf reason) × (numberOf reason ≤
 
 pub root-refusals : RootRefusals
 unfolding checked judged rootChecked rootJudged
-root-refusals base region address reason e = subst Numbered e numbered
+root-refusals region base address reason e = subst Numbered e numbered
   where
     t : List ℕ
-    t = tableAt base region address
+    t = tableAt region base address
 
     After : Checked → Type 0
     After c = Numbered (rootAfter c t)
 
-    numbered : Numbered (rootChecked base region address)
+    numbered : Numbered (rootChecked region base address)
     numbered =
         either After (not (eqb (address % 8) 0)) (omega arith, omega arith)
-        (either After (outside rootHeader base (length region) address) (omega arith, omega arith)
+        (either After (outside rootHeader (length region) base address) (omega arith, omega arith)
         (either After (badSize rootHeader (length t) (totalOf t) (remainingOf t)) (omega arith, omega arith)
         (either After (not (eqb (versionOf t) version)) (omega arith, omega arith)
         (either After (not (eqb (sum 4 (summedPart t)) 0)) (omega arith, omega arith)

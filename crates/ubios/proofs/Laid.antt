@@ -13,6 +13,7 @@ use Rattle.le.specs.Sum.{sum, checksumOf}
 use Rattle.le.proofs.Words.{word-bytes, word-one, length-bytes}
 use Rattle.le.proofs.Sums.{checksum}
 use Rattle.le.proofs.Comparing.{same-self, equal-same}
+use Rattle.region.proofs.Answers.{is-inside}
 use Rattle.ubios.specs.Layout.{tableHeader, rootHeader, countMax, nameMax, version, upToZero, nameOf, totalOf, versionOf, remainingOf, usedOf, summedPart, rootName, countOf, addresses, slotsOf}
 use Rattle.ubios.specs.Checks.{tableAt, badSize, judged, checked, rootJudged}
 use Rattle.ubios.specs.Lookup.{badName, leads, bodyOf}
@@ -20,7 +21,7 @@ use Rattle.ubios.specs.Statements.{headOf, tableOf, Laid, LaidPasses, En
 use Rattle.ubios.specs.declared.Table.{Table}
 use Rattle.ubios.specs.declared.Checked.the-variants.{Passed}
 use Rattle.ubios.specs.declared.lookup.Found.the-variants.{Only}
-use Rattle.ubios.proofs.Answers.{passes-only, not-outside, good-size, judged-passed, is-inside, root-judged, root-passed, good-count}
+use Rattle.ubios.proofs.Answers.{passes-only, good-size, judged-passed, held, root-judged, root-passed, good-count}
 use Rattle.ubios.proofs.Theorems.{only-found}
 use Rattle.ubios.proofs.Names.{ends, joined, whole as whole-name, root-name-good}
 
@@ -113,7 +114,7 @@ module _ (header base : ℕ) (front field reserved : List ℕ) (remaining : ℕ)
   region-length = length-append front table ∙ ap (λ (n : ℕ). length front + n) whole
 
 -- what stands at an address is what was laid there
-at-address : (base : ℕ) (front table : List ℕ) → tableAt base (front ++ table) (base + length front) ≡ table
+at-address : (base : ℕ) (front table : List ℕ) → tableAt (front ++ table) base (base + length front) ≡ table
 at-address base front table =
     let place : base + length front - base ≡ length front = omega arith in
     ap (λ (n : ℕ). drop n (front ++ table)) place ∙ drop-append-seam front table
@@ -125,8 +126,8 @@ laid-passes header base front field reserved remaining body rest long laid =
     let address = base + length front in
     let size = region-length header base front field reserved remaining body rest long laid in
     let place : address - base ≡ length front = omega arith in
-    let inside = not-outside header base (length region) address (laid .top) (omega arith) (omega arith) in
-    is-inside header base region address (laid .aligned) inside
+    let inside = is-inside header (length region) base address (record { top = laid .top; start = omega arith; end = omega arith }) in
+    held header region base address (laid .aligned) inside
     ∙ ap₂ (λ (n : ℕ) (s : List ℕ). judged header n s) place (at-address base front table)
     ∙ judged-here header base front field reserved remaining body rest long laid
 
@@ -228,13 +229,13 @@ module _ (base : ℕ) (front junk reserved : List ℕ) (remaining : ℕ) (six sl
   slots-read : slotsOf root ≡ slots
   slots-read = ap₂ addresses (sym count-read) behind-count ∙ read-slots slots (more ++ rest) fit
 
-  root-laid : RootLaid base (front ++ root) (base + length front) (length front) (tableHeader + length body) slots
+  root-laid : RootLaid (front ++ root) base (base + length front) (length front) (tableHeader + length body) slots
   root-laid =
       let table : Table = record { at = length front; used = tableHeader + length body } in
       let long = body-length in
       record {
         passes =
-            root-judged base (front ++ root) (base + length front) table (laid-passes rootHeader base front field reserved remaining body rest root-fits laid)
+            root-judged (front ++ root) base (base + length front) table (laid-passes rootHeader base front field reserved remaining body rest root-fits laid)
             ∙ ap (rootJudged table) (at-address base front root)
             ∙ root-passed table root (equal-same (nameOf root) rootName named-root) (length slots) count-read (good-count (tableHeader + length body) (length slots) few (omega arith));
         slots-are = ap (λ (t : List ℕ). slotsOf t) (at-address base front root) ∙ slots-read;
@@ -245,13 +246,13 @@ laid-root base front junk reserved remaining six slots more rest six-bytes few f
     root-laid base front junk reserved remaining six slots more rest six-bytes few fit laid
 
 -- a table in a memory with others: it passes, and its slot leads there
-module _ (base : ℕ) (region : List ℕ) (address : ℕ) (own body : List ℕ) (t : TableIn base region address own body) where
-  in-passes : checked tableHeader base region address ≡ Passed (record { at = address - base; used = tableHeader + length body })
+module _ (region : List ℕ) (base address : ℕ) (own body : List ℕ) (t : TableIn region base address own body) where
+  in-passes : checked tableHeader region base address ≡ Passed (record { at = address - base; used = tableHeader + length body })
   in-passes =
       let place : base + length (t .front) - base ≡ length (t .front) = omega arith in
       rw (t .here, t .memory, place) (laid-passes tableHeader base (t .front) (own ++ t .end) (t .reserved) (t .remaining) body (t .rest) (omega arith) (t .laid))
 
-  in-name : nameOf (tableAt base region address) ≡ own
+  in-name : nameOf (tableAt region base address) ≡ own
   in-name =
       let table = tableOf (own ++ t .end) (t .reserved) (t .remaining) body ++ t .rest in
       rw (t .here, t .memory)
@@ -259,24 +260,24 @@ module _ (base : ℕ) (region : List ℕ) (address : ℕ) (own body : List ℕ) 
 
 pub laid-leads : LaidLeads
 unfolding leads
-laid-leads base region address own body name t ne =
-    rw (ne-eqb address 0 ne, in-passes base region address own body t, in-name base region address own body t)
+laid-leads region base address own body name t ne =
+    rw (ne-eqb address 0 ne, in-passes region base address own body t, in-name region base address own body t)
 
 pub laid-found : LaidFound
-laid-found base region root address name body before after r t ne hb ha =
+laid-found region base root address name body before after r t ne hb ha =
     let slots = before ++ (address ∷ after) in
-    let laid : RootLaid base region root (length (r .front)) (tableHeader + length (rootBody (r .six) slots (r .more))) slots =
+    let laid : RootLaid region base root (length (r .front)) (tableHeader + length (rootBody (r .six) slots (r .more))) slots =
     rw (r .here, r .memory) (laid-root base (r .front) (r .junk) (r .reserved) (r .remaining) (r .six) slots (r .more) (r .rest) (r .six-bytes) (r .few) (r .fit) (r .laid)) in
     let behind-header : tableHeader + length body - tableHeader ≡ length body = omega arith in
-    let passing = passes-only tableHeader base region address _ (in-passes base region address name body t) in
-    only-found base region root name _
+    let passing = passes-only tableHeader region base address _ (in-passes region base address name body t) in
+    only-found region base root name _
     (record { sought = t .good; root-table = _; root-passes = laid .passes })
     (record {
       before = before;
       address = address;
       after = after;
       slots = laid .slots-are;
-      leads-there = laid-leads base region address name body name t ne ∙ same-self name;
+      leads-there = laid-leads region base address name body name t ne ∙ same-self name;
       none-before = hb;
       none-after = ha;
       is = ap (bodyOf (length before)) (passing .is);

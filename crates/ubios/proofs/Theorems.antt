@@ -34,36 +34,36 @@ only-inj : {b c : Body} → Only b ≡ Only c → b ≡ c
 only-inj e = cc
 
 -- the hits among slots of which none leads there, and of which one does
-module _ (base : ℕ) (region name : List ℕ) where
-  none-hit : (k : ℕ) (slots : List ℕ) → NoneLeads base region name slots → hits base region name k slots ≡ []
-  none-hit k [] h = no-slots base region name k
-  none-hit k (a ∷ slots) h = passes-over base region name k a slots (h .0) ∙ none-hit (suc k) slots (h .1)
+module _ (region : List ℕ) (base : ℕ) (name : List ℕ) where
+  none-hit : (k : ℕ) (slots : List ℕ) → NoneLeads region base name slots → hits region base name k slots ≡ []
+  none-hit k [] h = no-slots region base name k
+  none-hit k (a ∷ slots) h = passes-over region base name k a slots (h .0) ∙ none-hit (suc k) slots (h .1)
 
-  one-hit : (k : ℕ) (before : List ℕ) (a : ℕ) (after : List ℕ) → NoneLeads base region name before → leads base region name a ≡ true → NoneLeads base region name after
-      → hits base region name k (before ++ (a ∷ after)) ≡ bodyAt base region (k + length before) a ∷ []
+  one-hit : (k : ℕ) (before : List ℕ) (a : ℕ) (after : List ℕ) → NoneLeads region base name before → leads region base name a ≡ true → NoneLeads region base name after
+      → hits region base name k (before ++ (a ∷ after)) ≡ bodyAt region base (k + length before) a ∷ []
   one-hit k [] a after hb h ha =
       let here : k ≡ k + 0 = omega arith in
-      meets base region name k a after h ∙ ap₂ (λ (i : ℕ) (l : List Body). bodyAt base region i a ∷ l) here (none-hit (suc k) after ha)
+      meets region base name k a after h ∙ ap₂ (λ (i : ℕ) (l : List Body). bodyAt region base i a ∷ l) here (none-hit (suc k) after ha)
   one-hit k (x ∷ before) a after hb h ha =
       let on : suc k + length before ≡ k + suc (length before) = omega arith in
-      passes-over base region name k x (before ++ (a ∷ after)) (hb .0)
+      passes-over region base name k x (before ++ (a ∷ after)) (hb .0)
       ∙ one-hit (suc k) before a after (hb .1) h ha
-      ∙ ap (λ (i : ℕ). bodyAt base region i a ∷ []) on
+      ∙ ap (λ (i : ℕ). bodyAt region base i a ∷ []) on
 
-  one-of-all : (before : List ℕ) (a : ℕ) (after : List ℕ) → NoneLeads base region name before → leads base region name a ≡ true → NoneLeads base region name after
-      → lookedUp base region name (before ++ (a ∷ after)) ≡ Only (bodyAt base region (length before) a)
+  one-of-all : (before : List ℕ) (a : ℕ) (after : List ℕ) → NoneLeads region base name before → leads region base name a ≡ true → NoneLeads region base name after
+      → lookedUp region base name (before ++ (a ∷ after)) ≡ Only (bodyAt region base (length before) a)
   one-of-all before a after hb h ha =
       let start : 0 + length before ≡ length before = omega arith in
-      ap answerOf (one-hit 0 before a after hb h ha ∙ ap (λ (i : ℕ). bodyAt base region i a ∷ []) start)
+      ap answerOf (one-hit 0 before a after hb h ha ∙ ap (λ (i : ℕ). bodyAt region base i a ∷ []) start)
 
   -- and back: what the hits say of the slots
-  none-lead : (k : ℕ) (slots : List ℕ) → hits base region name k slots ≡ [] → NoneLeads base region name slots
+  none-lead : (k : ℕ) (slots : List ℕ) → hits region base name k slots ≡ [] → NoneLeads region base name slots
   none-lead k [] e = tt
-  none-lead k (a ∷ slots) e = go (leads base region name a) refl (none-lead (suc k) slots)
+  none-lead k (a ∷ slots) e = go (leads region base name a) refl (none-lead (suc k) slots)
     where
-      go : (t : Bool) → leads base region name a ≡ t → (hits base region name (suc k) slots ≡ [] → NoneLeads base region name slots) → NoneLeads base region name (a ∷ slots)
-      go true q later = let z = sym (meets base region name k a slots q) ∙ e in apart (cc)
-      go false q later = (q, later (sym (passes-over base region name k a slots q) ∙ e))
+      go : (t : Bool) → leads region base name a ≡ t → (hits region base name (suc k) slots ≡ [] → NoneLeads region base name slots) → NoneLeads region base name (a ∷ slots)
+      go true q later = let z = sym (meets region base name k a slots q) ∙ e in apart (cc)
+      go false q later = (q, later (sym (passes-over region base name k a slots q) ∙ e))
 
   -- where among the slots the first hit is
   record Place (k : ℕ) (slots : List ℕ) (b : Body) (more : List Body) : Type 0 where
@@ -71,18 +71,18 @@ module _ (base : ℕ) (region name : List ℕ) where
     address : ℕ
     after : List ℕ
     all : slots ≡ before ++ (address ∷ after)
-    leads-there : leads base region name address ≡ true
-    none-before : NoneLeads base region name before
-    others : hits base region name (suc (k + length before)) after ≡ more
-    is : b ≡ bodyAt base region (k + length before) address
+    leads-there : leads region base name address ≡ true
+    none-before : NoneLeads region base name before
+    others : hits region base name (suc (k + length before)) after ≡ more
+    is : b ≡ bodyAt region base (k + length before) address
 
-  place : (k : ℕ) (slots : List ℕ) (b : Body) (more : List Body) → hits base region name k slots ≡ b ∷ more → Place k slots b more
-  place k [] b more e = let z = sym (no-slots base region name k) ∙ e in apart (cc)
-  place k (a ∷ slots) b more e = go (leads base region name a) refl (place (suc k) slots b more)
+  place : (k : ℕ) (slots : List ℕ) (b : Body) (more : List Body) → hits region base name k slots ≡ b ∷ more → Place k slots b more
+  place k [] b more e = let z = sym (no-slots region base name k) ∙ e in apart (cc)
+  place k (a ∷ slots) b more e = go (leads region base name a) refl (place (suc k) slots b more)
     where
-      go : (t : Bool) → leads base region name a ≡ t → (hits base region name (suc k) slots ≡ b ∷ more → Place (suc k) slots b more) → Place k (a ∷ slots) b more
+      go : (t : Bool) → leads region base name a ≡ t → (hits region base name (suc k) slots ≡ b ∷ more → Place (suc k) slots b more) → Place k (a ∷ slots) b more
       go true q later =
-          let here = sym (meets base region name k a slots q) ∙ e in
+          let here = sym (meets region base name k a slots q) ∙ e in
           let start : k ≡ k + 0 = omega arith in
           record {
             before = [];
@@ -91,11 +91,11 @@ module _ (base : ℕ) (region name : List ℕ) where
             all = refl;
             leads-there = q;
             none-before = tt;
-            others = ap (λ (i : ℕ). hits base region name (suc i) slots) (sym start) ∙ cons-tail here;
-            is = sym (cons-head here) ∙ ap (λ (i : ℕ). bodyAt base region i a) start;
+            others = ap (λ (i : ℕ). hits region base name (suc i) slots) (sym start) ∙ cons-tail here;
+            is = sym (cons-head here) ∙ ap (λ (i : ℕ). bodyAt region base i a) start;
           }
       go false q later =
-          let p = later (sym (passes-over base region name k a slots q) ∙ e) in
+          let p = later (sym (passes-over region base name k a slots q) ∙ e) in
           let on : suc k + length (p .before) ≡ k + suc (length (p .before)) = omega arith in
           record {
             before = a ∷ p .before;
@@ -104,37 +104,37 @@ module _ (base : ℕ) (region name : List ℕ) where
             all = ap (λ (l : List ℕ). a ∷ l) (p .all);
             leads-there = p .leads-there;
             none-before = (q, p .none-before);
-            others = ap (λ (i : ℕ). hits base region name (suc i) (p .after)) (sym on) ∙ p .others;
-            is = p .is ∙ ap (λ (i : ℕ). bodyAt base region i (p .address)) on;
+            others = ap (λ (i : ℕ). hits region base name (suc i) (p .after)) (sym on) ∙ p .others;
+            is = p .is ∙ ap (λ (i : ℕ). bodyAt region base i (p .address)) on;
           }
 
   -- slots of which n hits come at least, with others before them, and behind one more that leads there
-  module _ (n : ℕ) (slots : List ℕ) (least : (k : ℕ) → n ≤ length (hits base region name k slots)) where
-    least-behind : (before : List ℕ) (k : ℕ) → n ≤ length (hits base region name k (before ++ slots))
+  module _ (n : ℕ) (slots : List ℕ) (least : (k : ℕ) → n ≤ length (hits region base name k slots)) where
+    least-behind : (before : List ℕ) (k : ℕ) → n ≤ length (hits region base name k (before ++ slots))
     least-behind [] k = least k
-    least-behind (x ∷ before) k = go (leads base region name x) refl (least-behind before (suc k))
+    least-behind (x ∷ before) k = go (leads region base name x) refl (least-behind before (suc k))
       where
-        go : (t : Bool) → leads base region name x ≡ t → n ≤ length (hits base region name (suc k) (before ++ slots))
-            → n ≤ length (hits base region name k (x ∷ (before ++ slots)))
-        go true q later = rw (meets base region name k x (before ++ slots) q) (omega arith)
-        go false q later = rw (passes-over base region name k x (before ++ slots) q) later
+        go : (t : Bool) → leads region base name x ≡ t → n ≤ length (hits region base name (suc k) (before ++ slots))
+            → n ≤ length (hits region base name k (x ∷ (before ++ slots)))
+        go true q later = rw (meets region base name k x (before ++ slots) q) (omega arith)
+        go false q later = rw (passes-over region base name k x (before ++ slots) q) later
 
-    one-more : (a : ℕ) → leads base region name a ≡ true → (k : ℕ) → suc n ≤ length (hits base region name k (a ∷ slots))
-    one-more a q k = rw (meets base region name k a slots q) (omega (arith, least (suc k)))
+    one-more : (a : ℕ) → leads region base name a ≡ true → (k : ℕ) → suc n ≤ length (hits region base name k (a ∷ slots))
+    one-more a q k = rw (meets region base name k a slots q) (omega (arith, least (suc k)))
 
-  two-hits : (before : List ℕ) (a : ℕ) (between : List ℕ) (b : ℕ) (after : List ℕ) → leads base region name a ≡ true → leads base region name b ≡ true
-      → 2 ≤ length (hits base region name 0 (before ++ (a ∷ (between ++ (b ∷ after)))))
+  two-hits : (before : List ℕ) (a : ℕ) (between : List ℕ) (b : ℕ) (after : List ℕ) → leads region base name a ≡ true → leads region base name b ≡ true
+      → 2 ≤ length (hits region base name 0 (before ++ (a ∷ (between ++ (b ∷ after)))))
   two-hits before a between b after ha hb =
       let one = one-more 0 after (λ k. omega arith) b hb in
       let two = one-more 1 (between ++ (b ∷ after)) (least-behind 1 (b ∷ after) one between) a ha in
       least-behind 2 (a ∷ (between ++ (b ∷ after))) two before 0
 
 -- the slots, and the hits among them
-abbrev slots : ℕ → List ℕ → ℕ → List ℕ
-slots base region root = slotsOf (tableAt base region root)
+abbrev slots : List ℕ → ℕ → ℕ → List ℕ
+slots region base root = slotsOf (tableAt region base root)
 
-abbrev met : ℕ → List ℕ → ℕ → List ℕ → List Body
-met base region root name = hits base region name 0 (slots base region root)
+abbrev met : List ℕ → ℕ → ℕ → List ℕ → List Body
+met region base root name = hits region base name 0 (slots region base root)
 
 -- no refusal, or 37 or 38
 abbrev OfSlots : Found → Type 0
@@ -142,30 +142,30 @@ OfSlots (Only b) = Unit {0}
 OfSlots (Refused reason) = (37 ≤ numberOf reason) × (numberOf reason ≤ 38)
 
 -- such an answer comes of the slots
-module _ (base : ℕ) (region : List ℕ) (root : ℕ) (name : List ℕ) where
-  by-slots : Walked base region root name → found base region root name ≡ answerOf (met base region root name)
-  by-slots w = in-root base region root name (w .sought) (w .root-table) (w .root-passes)
+module _ (region : List ℕ) (base root : ℕ) (name : List ℕ) where
+  by-slots : Walked region base root name → found region base root name ≡ answerOf (met region base root name)
+  by-slots w = in-root region base root name (w .sought) (w .root-table) (w .root-passes)
 
-  walked : (f : Found) → OfSlots f → found base region root name ≡ f → Walked base region root name × (answerOf (met base region root name) ≡ f)
+  walked : (f : Found) → OfSlots f → found region base root name ≡ f → Walked region base root name × (answerOf (met region base root name) ≡ f)
   walked f of e = by-name (badName name) refl
     where
-      by-root : badName name ≡ false → (c : RootChecked) → rootChecked base region root ≡ c → Walked base region root name × (answerOf (met base region root name) ≡ f)
+      by-root : badName name ≡ false → (c : RootChecked) → rootChecked region base root ≡ c → Walked region base root name × (answerOf (met region base root name) ≡ f)
       by-root good (RootRefused reason) q =
-          let above = subst OfSlots (sym e ∙ no-root base region root name good reason q) of in
-          absurd (omega (arith, root-refusals base region root reason q .1, above .0))
+          let above = subst OfSlots (sym e ∙ no-root region base root name good reason q) of in
+          absurd (omega (arith, root-refusals region base root reason q .1, above .0))
       by-root good (RootPassed r) q =
-          let w : Walked base region root name = record { sought = good; root-table = r; root-passes = q } in
+          let w : Walked region base root name = record { sought = good; root-table = r; root-passes = q } in
           (w, sym (by-slots w) ∙ e)
 
-      by-name : (t : Bool) → badName name ≡ t → Walked base region root name × (answerOf (met base region root name) ≡ f)
-      by-name true q = let above = subst OfSlots (sym e ∙ bad-name base region root name q) of in absurd (omega (arith, above .1))
-      by-name false q = by-root q (rootChecked base region root) refl
+      by-name : (t : Bool) → badName name ≡ t → Walked region base root name × (answerOf (met region base root name) ≡ f)
+      by-name true q = let above = subst OfSlots (sym e ∙ bad-name region base root name q) of in absurd (omega (arith, above .1))
+      by-name false q = by-root q (rootChecked region base root) refl
 
 pub only-found : OnlyFound
-only-found base region root name b w one =
-    by-slots base region root name w
-    ∙ ap (lookedUp base region name) (one .slots)
-    ∙ one-of-all base region name (one .before) (one .address) (one .after) (one .none-before) (one .leads-there) (one .none-after)
+only-found region base root name b w one =
+    by-slots region base root name w
+    ∙ ap (lookedUp region base name) (one .slots)
+    ∙ one-of-all region base name (one .before) (one .address) (one .after) (one .none-before) (one .leads-there) (one .none-after)
     ∙ ap Only (sym (one .is))
 
 -- an answer that is a body comes of one hit
@@ -175,9 +175,9 @@ one-answer (c ∷ []) b e = ap (λ (x : Body). x ∷ []) (only-inj e)
 one-answer (c ∷ d ∷ l) b e = apart (cc)
 
 pub found-only : FoundOnly
-found-only base region root name b e =
-    let w = walked base region root name (Only b) tt e in
-    let p = place base region name 0 (slots base region root) b [] (one-answer (met base region root name) b (w .1)) in
+found-only region base root name b e =
+    let w = walked region base root name (Only b) tt e in
+    let p = place region base name 0 (slots region base root) b [] (one-answer (met region base root name) b (w .1)) in
     let start : 0 + length (p .before) ≡ length (p .before) = omega arith in (
       w .0,
       record {
@@ -187,8 +187,8 @@ found-only base region root name b e =
         slots = p .all;
         leads-there = p .leads-there;
         none-before = p .none-before;
-        none-after = none-lead base region name _ (p .after) (p .others);
-        is = p .is ∙ ap (λ (i : ℕ). bodyAt base region i (p .address)) start;
+        none-after = none-lead region base name _ (p .after) (p .others);
+        is = p .is ∙ ap (λ (i : ℕ). bodyAt region base i (p .address)) start;
       },
     )
 
@@ -199,13 +199,13 @@ no-answer (b ∷ []) e = apart (cc)
 no-answer (b ∷ c ∷ l) e = apart (cc)
 
 pub found-none : FoundNone
-found-none base region root name e =
-    let w = walked base region root name (Refused NoTable) (omega arith, omega arith) e in
-    (w .0, none-lead base region name 0 (slots base region root) (no-answer (met base region root name) (w .1)))
+found-none region base root name e =
+    let w = walked region base root name (Refused NoTable) (omega arith, omega arith) e in
+    (w .0, none-lead region base name 0 (slots region base root) (no-answer (met region base root name) (w .1)))
 
 pub none-found : NoneFound
-none-found base region root name w none =
-    by-slots base region root name w ∙ ap answerOf (none-hit base region name 0 (slots base region root) none)
+none-found region base root name w none =
+    by-slots region base root name w ∙ ap answerOf (none-hit region base name 0 (slots region base root) none)
 
 -- 38 comes of two hits, or more
 record Two (l : List Body) : Type 0 where
@@ -225,11 +225,11 @@ answer-two (b ∷ []) h = absurd (omega arith)
 answer-two (b ∷ c ∷ l) h = refl
 
 pub found-two : FoundTwo
-found-two base region root name e =
-    let w = walked base region root name (Refused TwoTables) (omega arith, omega arith) e in
-    let two = two-answer (met base region root name) (w .1) in
-    let p = place base region name 0 (slots base region root) (two .first) (two .second ∷ two .more) (two .all) in
-    let q = place base region name _ (p .after) (two .second) (two .more) (p .others) in (
+found-two region base root name e =
+    let w = walked region base root name (Refused TwoTables) (omega arith, omega arith) e in
+    let two = two-answer (met region base root name) (w .1) in
+    let p = place region base name 0 (slots region base root) (two .first) (two .second ∷ two .more) (two .all) in
+    let q = place region base name _ (p .after) (two .second) (two .more) (p .others) in (
       w .0,
       record {
         before = p .before;
@@ -244,39 +244,39 @@ found-two base region root name e =
     )
 
 pub two-found : TwoFound
-two-found base region root name w two =
-    let many = two-hits base region name (two .before) (two .first) (two .between) (two .second) (two .after) (two .first-leads) (two .second-leads) in
-    by-slots base region root name w ∙ answer-two (met base region root name) (rw (two .slots) many)
+two-found region base root name w two =
+    let many = two-hits region base name (two .before) (two .first) (two .between) (two .second) (two .after) (two .first-leads) (two .second-leads) in
+    by-slots region base root name w ∙ answer-two (met region base root name) (rw (two .slots) many)
 
 -- slots of which none leads there, joined
-none-joined : (base : ℕ) (region name before after : List ℕ) → NoneLeads base region name before → NoneLeads base region name after → NoneLeads base region name (before ++ after)
-none-joined base region name [] after hb ha = ha
-none-joined base region name (x ∷ before) after hb ha = (hb .0, none-joined base region name before after (hb .1) ha)
+none-joined : (region : List ℕ) (base : ℕ) (name before after : List ℕ) → NoneLeads region base name before → NoneLeads region base name after → NoneLeads region base name (before ++ after)
+none-joined region base name [] after hb ha = ha
+none-joined region base name (x ∷ before) after hb ha = (hb .0, none-joined region base name before after (hb .1) ha)
 
 pub behind-gap : BehindGap
-behind-gap base region root name r before between address after good passed slots h hb hm ha =
+behind-gap region base root name r before between address after good passed slots h hb hm ha =
     let front = before ++ (0 ∷ between) in
-    let none : NoneLeads base region name front =
-    none-joined base region name before (0 ∷ between) hb (at-gap base region name 0 refl, hm) in
-    in-root base region root name good r passed
-    ∙ ap (lookedUp base region name) (slots ∙ sym (append-assoc before (0 ∷ between) (address ∷ after)))
-    ∙ one-of-all base region name front address after none h ha
-    ∙ ap (λ (i : ℕ). Only (bodyAt base region i address)) (length-append before (0 ∷ between))
+    let none : NoneLeads region base name front =
+    none-joined region base name before (0 ∷ between) hb (at-gap region base name 0 refl, hm) in
+    in-root region base root name good r passed
+    ∙ ap (lookedUp region base name) (slots ∙ sym (append-assoc before (0 ∷ between) (address ∷ after)))
+    ∙ one-of-all region base name front address after none h ha
+    ∙ ap (λ (i : ℕ). Only (bodyAt region base i address)) (length-append before (0 ∷ between))
 
 -- the same tables give the same hits
-same-hits : (base : ℕ) (region region′ name : List ℕ) (k : ℕ) (slots : List ℕ) → SameTables base region region′ name slots
-    → hits base region′ name k slots ≡ hits base region name k slots
-same-hits base region region′ name k [] h = no-slots base region′ name k ∙ sym (no-slots base region name k)
-same-hits base region region′ name k (a ∷ slots) h = go (leads base region name a) refl (same-hits base region region′ name (suc k) slots (h .2))
+same-hits : (region region′ : List ℕ) (base : ℕ) (name : List ℕ) (k : ℕ) (slots : List ℕ) → SameTables region region′ base name slots
+    → hits region′ base name k slots ≡ hits region base name k slots
+same-hits region region′ base name k [] h = no-slots region′ base name k ∙ sym (no-slots region base name k)
+same-hits region region′ base name k (a ∷ slots) h = go (leads region base name a) refl (same-hits region region′ base name (suc k) slots (h .2))
   where
-    go : (t : Bool) → leads base region name a ≡ t → hits base region′ name (suc k) slots ≡ hits base region name (suc k) slots
-        → hits base region′ name k (a ∷ slots) ≡ hits base region name k (a ∷ slots)
+    go : (t : Bool) → leads region base name a ≡ t → hits region′ base name (suc k) slots ≡ hits region base name (suc k) slots
+        → hits region′ base name k (a ∷ slots) ≡ hits region base name k (a ∷ slots)
     go true q rest =
-        let body : bodyAt base region′ k a ≡ bodyAt base region k a = ap (λ (n : ℕ). bodyOf k (record { at = a - base; used = n })) (h .1 q) in
-        meets base region′ name k a slots (h .0 ∙ q)
+        let body : bodyAt region′ base k a ≡ bodyAt region base k a = ap (λ (n : ℕ). bodyOf k (record { at = a - base; used = n })) (h .1 q) in
+        meets region′ base name k a slots (h .0 ∙ q)
         ∙ ap₂ (λ (b : Body) (l : List Body). b ∷ l) body rest
-        ∙ sym (meets base region name k a slots q)
-    go false q rest = passes-over base region′ name k a slots (h .0 ∙ q) ∙ rest ∙ sym (passes-over base region name k a slots q)
+        ∙ sym (meets region base name k a slots q)
+    go false q rest = passes-over region′ base name k a slots (h .0 ∙ q) ∙ rest ∙ sym (passes-over region base name k a slots q)
 
 -- a hit with the number of each slot from n on one higher
 abbrev later : ℕ → Body → Body
@@ -287,59 +287,59 @@ answer-later n [] = refl
 answer-later n (b ∷ []) = refl
 answer-later n (b ∷ c ∷ l) = refl
 
-module _ (base : ℕ) (region name : List ℕ) (n : ℕ) where
+module _ (region : List ℕ) (base : ℕ) (name : List ℕ) (n : ℕ) where
   -- slots from n on have the next number
-  move : (k : ℕ) (slots : List ℕ) → n ≤ k → map (later n) (hits base region name k slots) ≡ hits base region name (suc k) slots
-  move k [] h = rw (no-slots base region name k, no-slots base region name (suc k))
-  move k (a ∷ slots) h = go (leads base region name a) refl (move (suc k) slots (omega arith))
+  move : (k : ℕ) (slots : List ℕ) → n ≤ k → map (later n) (hits region base name k slots) ≡ hits region base name (suc k) slots
+  move k [] h = rw (no-slots region base name k, no-slots region base name (suc k))
+  move k (a ∷ slots) h = go (leads region base name a) refl (move (suc k) slots (omega arith))
     where
-      go : (t : Bool) → leads base region name a ≡ t → map (later n) (hits base region name (suc k) slots) ≡ hits base region name (suc (suc k)) slots
-          → map (later n) (hits base region name k (a ∷ slots)) ≡ hits base region name (suc k) (a ∷ slots)
-      go true q rest = rw (meets base region name k a slots q, meets base region name (suc k) a slots q, le-ltb k n h, rest)
-      go false q rest = rw (passes-over base region name k a slots q, passes-over base region name (suc k) a slots q) rest
+      go : (t : Bool) → leads region base name a ≡ t → map (later n) (hits region base name (suc k) slots) ≡ hits region base name (suc (suc k)) slots
+          → map (later n) (hits region base name k (a ∷ slots)) ≡ hits region base name (suc k) (a ∷ slots)
+      go true q rest = rw (meets region base name k a slots q, meets region base name (suc k) a slots q, le-ltb k n h, rest)
+      go false q rest = rw (passes-over region base name k a slots q, passes-over region base name (suc k) a slots q) rest
 
   -- a gap at n
   gap-hits : (k : ℕ) (before after : List ℕ) → k + length before ≡ n
-      → hits base region name k (before ++ (0 ∷ after)) ≡ map (later n) (hits base region name k (before ++ after))
+      → hits region base name k (before ++ (0 ∷ after)) ≡ map (later n) (hits region base name k (before ++ after))
   gap-hits k [] after h =
-      passes-over base region name k 0 after (at-gap base region name 0 refl) ∙ sym (move k after (omega arith))
-  gap-hits k (a ∷ before) after h = go (leads base region name a) refl (gap-hits (suc k) before after (omega arith))
+      passes-over region base name k 0 after (at-gap region base name 0 refl) ∙ sym (move k after (omega arith))
+  gap-hits k (a ∷ before) after h = go (leads region base name a) refl (gap-hits (suc k) before after (omega arith))
     where
-      go : (t : Bool) → leads base region name a ≡ t
-          → hits base region name (suc k) (before ++ (0 ∷ after)) ≡ map (later n) (hits base region name (suc k) (before ++ after))
-          → hits base region name k (a ∷ (before ++ (0 ∷ after))) ≡ map (later n) (hits base region name k (a ∷ (before ++ after)))
+      go : (t : Bool) → leads region base name a ≡ t
+          → hits region base name (suc k) (before ++ (0 ∷ after)) ≡ map (later n) (hits region base name (suc k) (before ++ after))
+          → hits region base name k (a ∷ (before ++ (0 ∷ after))) ≡ map (later n) (hits region base name k (a ∷ (before ++ after)))
       go true q rest =
           let low : k < n = omega arith in
-          rw (meets base region name k a (before ++ (0 ∷ after)) q, meets base region name k a (before ++ after) q, lt-ltb k n low, rest)
+          rw (meets region base name k a (before ++ (0 ∷ after)) q, meets region base name k a (before ++ after) q, lt-ltb k n low, rest)
       go false q rest =
-          rw (passes-over base region name k a (before ++ (0 ∷ after)) q, passes-over base region name k a (before ++ after) q) rest
+          rw (passes-over region base name k a (before ++ (0 ∷ after)) q, passes-over region base name k a (before ++ after) q) rest
 
 pub gap-added : GapAdded
-gap-added base region region′ root root′ name r r′ before after passed passed′ slots slots′ same-tables = go (badName name) refl
+gap-added region region′ base root root′ name r r′ before after passed passed′ slots slots′ same-tables = go (badName name) refl
   where
-    go : (t : Bool) → badName name ≡ t → found base region′ root′ name ≡ movedOn (length before) (found base region root name)
-    go true q = bad-name base region′ root′ name q ∙ ap (movedOn (length before)) (sym (bad-name base region root name q))
+    go : (t : Bool) → badName name ≡ t → found region′ base root′ name ≡ movedOn (length before) (found region base root name)
+    go true q = bad-name region′ base root′ name q ∙ ap (movedOn (length before)) (sym (bad-name region base root name q))
     go false q =
         let start : 0 + length before ≡ length before = omega arith in
-        in-root base region′ root′ name q r′ passed′
-        ∙ ap (lookedUp base region′ name) slots′
-        ∙ ap answerOf (gap-hits base region′ name (length before) 0 before after start ∙ ap (map (later (length before))) (same-hits base region region′ name 0 (before ++ after) same-tables))
-        ∙ answer-later (length before) (hits base region name 0 (before ++ after))
-        ∙ ap (movedOn (length before)) (sym (in-root base region root name q r passed ∙ ap (lookedUp base region name) slots))
+        in-root region′ base root′ name q r′ passed′
+        ∙ ap (lookedUp region′ base name) slots′
+        ∙ ap answerOf (gap-hits region′ base name (length before) 0 before after start ∙ ap (map (later (length before))) (same-hits region region′ base name 0 (before ++ after) same-tables))
+        ∙ answer-later (length before) (hits region base name 0 (before ++ after))
+        ∙ ap (movedOn (length before)) (sym (in-root region base root name q r passed ∙ ap (lookedUp region base name) slots))
 
 -- where a table that a slot leads to stands
-module _ (base : ℕ) (region name : List ℕ) (a : ℕ) (q : leads base region name a ≡ true) where
-  body-end : (k : ℕ) → bodyAt base region k a .at + bodyAt base region k a .length ≤ length region
+module _ (region : List ℕ) (base : ℕ) (name : List ℕ) (a : ℕ) (q : leads region base name a ≡ true) where
+  body-end : (k : ℕ) → bodyAt region base k a .at + bodyAt region base k a .length ≤ length region
   body-end k =
-      let l = led base region name a q in
-      let p = passes-only tableHeader base region a (l .table) (l .passes) in
+      let l = led region base name a q in
+      let p = passes-only tableHeader region base a (l .table) (l .passes) in
       let room = length-drop (a - base) region in
       omega (arith, p .sized .holds, p .sized .left, p .sized .inside, room)
 
 pub body-inside : BodyInside
-body-inside base region root name b e =
-    let one = found-only base region root name b e .1 in
-    rw (one .is) (body-end base region name (one .address) (one .leads-there) (length (one .before)))
+body-inside region base root name b e =
+    let one = found-only region base root name b e .1 in
+    rw (one .is) (body-end region base name (one .address) (one .leads-there) (length (one .before)))
 
 drop-take : (m n : ℕ) (s : List ℕ) → drop m (take n s) ≡ take (n - m) (drop m s)
 drop-take zero n s = let all : n - 0 ≡ n = omega arith in rw all
@@ -348,6 +348,6 @@ drop-take (suc m) (suc n) [] = sym (take-nil (suc n - suc m))
 drop-take (suc m) (suc n) (x ∷ s) = let less : suc n - suc m ≡ n - m = omega arith in rw less (drop-take m n s)
 
 pub body-bytes : BodyBytes
-body-bytes base region slot address =
-    let t = tableAt base region address in
+body-bytes region base slot address =
+    let t = tableAt region base address in
     rw (← drop-drop tableHeader (address - base) region) (sym (drop-take tableHeader (usedOf t) t))

@@ -30,21 +30,21 @@ use Rattle.ubios.specs.declared.lookup.Hit.the-variants.{None, Some}
 use Rattle.ubios.proofs.Answers.{passes-only}
 
 -- which slots lead to a passing table of the name
-module _ (base : ℕ) (region name : List ℕ) (address : ℕ) where
-  pub at-gap : isGap address ≡ true → leads base region name address ≡ false
+module _ (region : List ℕ) (base : ℕ) (name : List ℕ) (address : ℕ) where
+  pub at-gap : isGap address ≡ true → leads region base name address ≡ false
   unfolding leads
   at-gap e = rw e
 
-  pub other-name : same (nameOf (tableAt base region address)) name ≡ false → leads base region name address ≡ false
+  pub other-name : same (nameOf (tableAt region base address)) name ≡ false → leads region base name address ≡ false
   unfolding leads
-  other-name e = rw e (neither-way (not (isGap address)) (passes (checked tableHeader base region address)))
+  other-name e = rw e (neither-way (not (isGap address)) (passes (checked tableHeader region base address)))
     where
       neither-way : (a b : Bool) → a && (b && false) ≡ false
       neither-way true true = refl
       neither-way true false = refl
       neither-way false b = refl
 
-  pub fails : (reason : Reason) → checked tableHeader base region address ≡ Refused reason → leads base region name address ≡ false
+  pub fails : (reason : Reason) → checked tableHeader region base address ≡ Refused reason → leads region base name address ≡ false
   unfolding leads
   fails reason e = rw e (go (not (isGap address)))
     where
@@ -52,45 +52,45 @@ module _ (base : ℕ) (region name : List ℕ) (address : ℕ) where
       go true = refl
       go false = refl
 
-  pub below-region : address < base → leads base region name address ≡ false
-  below-region h = go (checked tableHeader base region address) refl
+  pub below-region : address < base → leads region base name address ≡ false
+  below-region h = go (checked tableHeader region base address) refl
     where
-      go : (c : Checked) → checked tableHeader base region address ≡ c → leads base region name address ≡ false
-      go (Passed t) e = absurd (omega (arith, passes-only tableHeader base region address t e .inside .start))
+      go : (c : Checked) → checked tableHeader region base address ≡ c → leads region base name address ≡ false
+      go (Passed t) e = absurd (omega (arith, passes-only tableHeader region base address t e .inside .start))
       go (Refused reason) e = fails reason e
 
-  pub leads-there : (table : Table) → isGap address ≡ false → checked tableHeader base region address ≡ Passed table
-      → same (nameOf (tableAt base region address)) name ≡ true → leads base region name address ≡ true
+  pub leads-there : (table : Table) → isGap address ≡ false → checked tableHeader region base address ≡ Passed table
+      → same (nameOf (tableAt region base address)) name ≡ true → leads region base name address ≡ true
   unfolding leads
   leads-there table ne e named = rw (ne, e, named)
 
   -- what is known of a slot that does
   pub record Led : Type 0 where
     pub table : Table
-    pub passes : checked tableHeader base region address ≡ Passed table
-    pub named : same (nameOf (tableAt base region address)) name ≡ true
+    pub passes : checked tableHeader region base address ≡ Passed table
+    pub named : same (nameOf (tableAt region base address)) name ≡ true
 
-  pub led : leads base region name address ≡ true → Led
+  pub led : leads region base name address ≡ true → Led
   unfolding leads
   led e =
       let p = both (not (isGap address)) _ e in
-      let q = both (passes (checked tableHeader base region address)) _ (p .1) in
-      go (checked tableHeader base region address) refl (q .0) (q .1)
+      let q = both (passes (checked tableHeader region base address)) _ (p .1) in
+      go (checked tableHeader region base address) refl (q .0) (q .1)
     where
-      go : (c : Checked) → checked tableHeader base region address ≡ c → passes c ≡ true → same (nameOf (tableAt base region address)) name ≡ true → Led
+      go : (c : Checked) → checked tableHeader region base address ≡ c → passes c ≡ true → same (nameOf (tableAt region base address)) name ≡ true → Led
       go (Passed t) r h n = record { table = t; passes = r; named = n }
       go (Refused reason) r h n = apart (cc)
 
   module _ (slot : ℕ) where
-    pub no-hit : leads base region name address ≡ false → hitOf base region name slot address ≡ None
+    pub no-hit : leads region base name address ≡ false → hitOf region base name slot address ≡ None
     no-hit e = rw e
 
-    pub hit : (table : Table) → isGap address ≡ false → checked tableHeader base region address ≡ Passed table
-        → same (nameOf (tableAt base region address)) name ≡ true
-        → hitOf base region name slot address ≡ Some (bodyOf slot table)
+    pub hit : (table : Table) → isGap address ≡ false → checked tableHeader region base address ≡ Passed table
+        → same (nameOf (tableAt region base address)) name ≡ true
+        → hitOf region base name slot address ≡ Some (bodyOf slot table)
     hit table ne e named =
         rw (leads-there table ne e named)
-        (ap (λ (t : Table). Some (bodyOf slot t)) (sym (passes-only tableHeader base region address table e .is)))
+        (ap (λ (t : Table). Some (bodyOf slot t)) (sym (passes-only tableHeader region base address table e .is)))
 
 some-inj : {a b : Body} → Some a ≡ Some b → a ≡ b
 some-inj e = cc
@@ -109,41 +109,41 @@ unfolding addresses
 slots-end s count slot h = let none : count - slot ≡ 0 = omega arith in rw none
 
 -- a walk over the slots, which meets a hit or passes the slot over
-module _ (base : ℕ) (region name : List ℕ) where
-  pub no-slots : (k : ℕ) → hits base region name k [] ≡ []
+module _ (region : List ℕ) (base : ℕ) (name : List ℕ) where
+  pub no-slots : (k : ℕ) → hits region base name k [] ≡ []
   unfolding hits
   no-slots k = refl
 
-  pub passes-over : (k a : ℕ) (slots : List ℕ) → leads base region name a ≡ false → hits base region name k (a ∷ slots) ≡ hits base region name (suc k) slots
+  pub passes-over : (k a : ℕ) (slots : List ℕ) → leads region base name a ≡ false → hits region base name k (a ∷ slots) ≡ hits region base name (suc k) slots
   unfolding hits
   passes-over k a slots e = rw e
 
-  pub meets : (k a : ℕ) (slots : List ℕ) → leads base region name a ≡ true
-      → hits base region name k (a ∷ slots) ≡ bodyAt base region k a ∷ hits base region name (suc k) slots
+  pub meets : (k a : ℕ) (slots : List ℕ) → leads region base name a ≡ true
+      → hits region base name k (a ∷ slots) ≡ bodyAt region base k a ∷ hits region base name (suc k) slots
   unfolding hits
   meets k a slots e = rw e
 
-  pub turn : (k a : ℕ) (slots : List ℕ) → hitOf base region name k a ≡ None → hits base region name k (a ∷ slots) ≡ hits base region name (k + 1) slots
+  pub turn : (k a : ℕ) (slots : List ℕ) → hitOf region base name k a ≡ None → hits region base name k (a ∷ slots) ≡ hits region base name (k + 1) slots
   unfolding hits
-  turn k a slots e = rw (add-one k) (go (leads base region name a) e)
+  turn k a slots e = rw (add-one k) (go (leads region base name a) e)
     where
-      go : (t : Bool) → cond t (Some (bodyAt base region k a)) None ≡ None
-          → cond t (bodyAt base region k a ∷ hits base region name (suc k) slots) (hits base region name (suc k) slots) ≡ hits base region name (suc k) slots
+      go : (t : Bool) → cond t (Some (bodyAt region base k a)) None ≡ None
+          → cond t (bodyAt region base k a ∷ hits region base name (suc k) slots) (hits region base name (suc k) slots) ≡ hits region base name (suc k) slots
       go true q = apart (cc)
       go false q = refl
 
-  pub met : (k a : ℕ) (b : Body) (slots : List ℕ) → hitOf base region name k a ≡ Some b → firstOf (hits base region name k (a ∷ slots)) ≡ Some b
+  pub met : (k a : ℕ) (b : Body) (slots : List ℕ) → hitOf region base name k a ≡ Some b → firstOf (hits region base name k (a ∷ slots)) ≡ Some b
   unfolding hits
-  met k a b slots e = go (leads base region name a) e
+  met k a b slots e = go (leads region base name a) e
     where
-      go : (t : Bool) → cond t (Some (bodyAt base region k a)) None ≡ Some b
-          → firstOf (cond t (bodyAt base region k a ∷ hits base region name (suc k) slots) (hits base region name (suc k) slots)) ≡ Some b
+      go : (t : Bool) → cond t (Some (bodyAt region base k a)) None ≡ Some b
+          → firstOf (cond t (bodyAt region base k a ∷ hits region base name (suc k) slots) (hits region base name (suc k) slots)) ≡ Some b
       go true q = q
       go false q = apart (cc)
 
   -- the hits from one slot on
   abbrev pub from : ℕ → List ℕ → ℕ → List Body
-  from count s k = hits base region name k (addresses (count - k) (drop (8 * k) s))
+  from count s k = hits region base name k (addresses (count - k) (drop (8 * k) s))
 
   -- what is known where the first of them is b: its slot, and that those from the next slot on are the others
   pub record First (count : ℕ) (s : List ℕ) (k : ℕ) (b : Body) : Type 0 where
@@ -152,21 +152,21 @@ module _ (base : ℕ) (region name : List ℕ) where
 
   pub first : (count : ℕ) (s : List ℕ) (fuel k : ℕ) (b : Body) → count ≤ k + fuel → firstOf (from count s k) ≡ Some b → First count s k b
   first count s zero k b enough e =
-      let none : from count s k ≡ [] = ap (hits base region name k) (slots-end (drop (8 * k) s) count k (omega arith)) ∙ no-slots k in
+      let none : from count s k ≡ [] = ap (hits region base name k) (slots-end (drop (8 * k) s) count k (omega arith)) ∙ no-slots k in
       let z : None ≡ Some b = sym (ap firstOf none) ∙ e in
       apart (cc)
   first count s (suc fuel) k b enough e = by-end (ltb k count) refl (first count s fuel (k + 1) b (omega arith))
     where
-      by-slot : k < count → (t : Bool) → leads base region name (word 8 (drop (8 * k) s)) ≡ t
+      by-slot : k < count → (t : Bool) → leads region base name (word 8 (drop (8 * k) s)) ≡ t
           → (firstOf (from count s (k + 1)) ≡ Some b → First count s (k + 1) b)
           → First count s k b
       by-slot h true q later =
           let a = word 8 (drop (8 * k) s) in
-          let here : from count s k ≡ bodyAt base region k a ∷ from count s (k + 1) =
-          ap (hits base region name k) (slots-from s count k h)
+          let here : from count s k ≡ bodyAt region base k a ∷ from count s (k + 1) =
+          ap (hits region base name k) (slots-from s count k h)
           ∙ meets k a _ q
-          ∙ ap (λ (i : ℕ). bodyAt base region k a ∷ hits base region name i (addresses (count - (k + 1)) (drop (8 * (k + 1)) s))) (sym (add-one k)) in
-          let is : bodyAt base region k a ≡ b = some-inj (sym (ap firstOf here) ∙ e) in
+          ∙ ap (λ (i : ℕ). bodyAt region base k a ∷ hits region base name i (addresses (count - (k + 1)) (drop (8 * (k + 1)) s))) (sym (add-one k)) in
+          let is : bodyAt region base k a ≡ b = some-inj (sym (ap firstOf here) ∙ e) in
           let slot : k ≡ b .slot = ap (λ (x : Body). x .slot) is in
           record {
             below = rw (← slot) h;
@@ -174,25 +174,25 @@ module _ (base : ℕ) (region name : List ℕ) where
           }
       by-slot h false q later =
           let over : from count s k ≡ from count s (k + 1) =
-          ap (hits base region name k) (slots-from s count k h)
+          ap (hits region base name k) (slots-from s count k h)
           ∙ passes-over k (word 8 (drop (8 * k) s)) _ q
-          ∙ ap (λ (i : ℕ). hits base region name i (addresses (count - (k + 1)) (drop (8 * (k + 1)) s))) (sym (add-one k)) in
+          ∙ ap (λ (i : ℕ). hits region base name i (addresses (count - (k + 1)) (drop (8 * (k + 1)) s))) (sym (add-one k)) in
           let l = later (sym (ap firstOf over) ∙ e) in
           record { below = l .below; others = over ∙ l .others }
 
       by-end : (t : Bool) → ltb k count ≡ t → (firstOf (from count s (k + 1)) ≡ Some b → First count s (k + 1) b) → First count s k b
-      by-end true q later = by-slot (ltb-true k count q) (leads base region name (word 8 (drop (8 * k) s))) refl later
+      by-end true q later = by-slot (ltb-true k count q) (leads region base name (word 8 (drop (8 * k) s))) refl later
       by-end false q later =
-          let none : from count s k ≡ [] = ap (hits base region name k) (slots-end (drop (8 * k) s) count k (ltb-false k count q)) ∙ no-slots k in
+          let none : from count s k ≡ [] = ap (hits region base name k) (slots-end (drop (8 * k) s) count k (ltb-false k count q)) ∙ no-slots k in
           let z : None ≡ Some b = sym (ap firstOf none) ∙ e in
           apart (cc)
 
   -- the answer, by the first two hits
   module _ (count : ℕ) (s : List ℕ) where
-    all : lookedUp base region name (addresses count s) ≡ answerOf (from count s 0)
+    all : lookedUp region base name (addresses count s) ≡ answerOf (from count s 0)
     all = let whole : count - 0 ≡ count = omega arith in rw whole
 
-    pub none-met : firstOf (from count s 0) ≡ None → lookedUp base region name (addresses count s) ≡ Refuses NoTable
+    pub none-met : firstOf (from count s 0) ≡ None → lookedUp region base name (addresses count s) ≡ Refuses NoTable
     none-met e = all ∙ go (from count s 0) e
       where
         go : (l : List Body) → firstOf l ≡ None → answerOf l ≡ Refuses NoTable
@@ -207,14 +207,14 @@ module _ (base : ℕ) (region name : List ℕ) where
       pub below-count : b .slot < count
       below-count = known .below
 
-      pub one-met : firstOf (from count s (b .slot + 1)) ≡ None → lookedUp base region name (addresses count s) ≡ Only b
+      pub one-met : firstOf (from count s (b .slot + 1)) ≡ None → lookedUp region base name (addresses count s) ≡ Only b
       one-met e = all ∙ ap answerOf (known .others) ∙ go (from count s (b .slot + 1)) e
         where
           go : (l : List Body) → firstOf l ≡ None → answerOf (b ∷ l) ≡ Only b
           go [] q = refl
           go (c ∷ l) q = apart (cc)
 
-      pub two-met : (c : Body) → firstOf (from count s (b .slot + 1)) ≡ Some c → lookedUp base region name (addresses count s) ≡ answerOf (b ∷ c ∷ [])
+      pub two-met : (c : Body) → firstOf (from count s (b .slot + 1)) ≡ Some c → lookedUp region base name (addresses count s) ≡ answerOf (b ∷ c ∷ [])
       two-met c e = all ∙ ap answerOf (known .others) ∙ go (from count s (b .slot + 1)) e
         where
           go : (l : List Body) → firstOf l ≡ Some c → answerOf (b ∷ l) ≡ answerOf (b ∷ c ∷ [])
@@ -222,17 +222,17 @@ module _ (base : ℕ) (region name : List ℕ) where
           go (d ∷ l) q = refl
 
 -- 39, the root's refusals, and what is left to the slots
-module _ (base : ℕ) (region : List ℕ) (root : ℕ) (name : List ℕ) where
-  pub bad-name : badName name ≡ true → found base region root name ≡ Refuses BadName
+module _ (region : List ℕ) (base root : ℕ) (name : List ℕ) where
+  pub bad-name : badName name ≡ true → found region base root name ≡ Refuses BadName
   unfolding found
   bad-name e = taken _ (badName name) e
 
   module _ (good : badName name ≡ false) where
-    pub no-root : (reason : Reason) → rootChecked base region root ≡ RootRefused reason → found base region root name ≡ Refuses reason
+    pub no-root : (reason : Reason) → rootChecked region base root ≡ RootRefused reason → found region base root name ≡ Refuses reason
     unfolding found
     no-root reason e = rw (good, e)
 
-    pub in-root : (r : Root) → rootChecked base region root ≡ RootPassed r
-        → found base region root name ≡ lookedUp base region name (slotsOf (tableAt base region root))
+    pub in-root : (r : Root) → rootChecked region base root ≡ RootPassed r
+        → found region base root name ≡ lookedUp region base name (slotsOf (tableAt region base root))
     unfolding found
     in-root r e = rw (good, e)

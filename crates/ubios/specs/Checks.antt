@@ -1,12 +1,13 @@
 -- Document 01, "UBIOS tables": the checks of a table and of the root, in their order. "Memory is a lent region with the address of its first byte."
 -- Assumes nothing.
-use Prim.Native.Nat.{ℕ, _+_, _*_, _-_, _%_, _^_}
+use Prim.Native.Nat.{ℕ, _+_, _*_, _-_, _%_}
 use mathlib.Core.Bool.{Bool, cond, not, _||_}
 use mathlib.Core.List.{List}
 use lib.Dec.{ltb, eqb}
 use lib.ListN.{length, drop}
 use Rattle.le.specs.Sum.{sum}
 use Rattle.le.specs.Compare.{same}
+use Rattle.region.specs.Region.{outside}
 use Rattle.ubios.specs.Layout.{rootHeader, totalMax, countMax, version, nameOf, totalOf, versionOf, remainingOf, usedOf, summedPart, rootName, countOf}
 use Rattle.ubios.specs.declared.Table.{Table}
 use Rattle.ubios.specs.declared.Reason.{Reason}
@@ -29,14 +30,8 @@ numberOf TwoTables = 38
 numberOf BadName = 39
 
 -- what stands in the region from an address on
-abbrev pub tableAt : ℕ → List ℕ → ℕ → List ℕ
-tableAt base region address = drop (address - base) region
-
--- 30: "region runs past 2^64, or the header isn't inside it". All sums are of exact numbers; a region that ends at 2^64 is legal
-unfoldable pub outside : ℕ → ℕ → ℕ → ℕ → Bool
-outside header base size address =
-    ltb (2 ^ 64) (base + size)
-    || (ltb address base || ltb (base + size) (address + header))
+abbrev pub tableAt : List ℕ → ℕ → ℕ → List ℕ
+tableAt region base address = drop (address - base) region
 
 -- 32: "Total under the header, over 65,536 or past the region, or Remaining over Total − header"
 -- `size` is how much of the region there is from the table's first byte on
@@ -56,11 +51,11 @@ judged header at t =
     (Passed (record { at = at; used = usedOf t }))))
 
 -- what the checks of a table with a header of that size answer: where it stands in the region, and how long its used part is
-unfoldable pub checked : ℕ → ℕ → List ℕ → ℕ → Checked
-checked header base region address =
+unfoldable pub checked : ℕ → List ℕ → ℕ → ℕ → Checked
+checked header region base address =
     cond (not (eqb (address % 8) 0)) (Failed Misaligned)
-    (cond (outside header base (length region) address) (Failed Outside)
-    (judged header (address - base) (tableAt base region address)))
+    (cond (outside header (length region) base address) (Failed Outside)
+    (judged header (address - base) (tableAt region base address)))
 
 -- "Count over 128, or 40 + 8 × Count over the used part"
 abbrev pub badCount : ℕ → ℕ → Bool
@@ -78,5 +73,5 @@ rootAfter (Failed reason) t = RootFailed reason
 rootAfter (Passed table) t = rootJudged table t
 
 -- what the checks of the root answer
-unfoldable pub rootChecked : ℕ → List ℕ → ℕ → RootChecked
-rootChecked base region address = rootAfter (checked rootHeader base region address) (tableAt base region address)
+unfoldable pub rootChecked : List ℕ → ℕ → ℕ → RootChecked
+rootChecked region base address = rootAfter (checked rootHeader region base address) (tableAt region base address)

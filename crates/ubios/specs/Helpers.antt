@@ -9,8 +9,8 @@ use Rattle.ubios.specs.declared.lookup.Hit.{Hit}
 use Rattle.ubios.specs.declared.lookup.Hit.the-variants.{None, Some}
 
 -- what one slot leads to
-abbrev pub hitOf : ℕ → List ℕ → List ℕ → ℕ → ℕ → Hit
-hitOf base region name slot address = cond (leads base region name address) (Some (bodyAt base region slot address)) None
+abbrev pub hitOf : List ℕ → ℕ → List ℕ → ℕ → ℕ → Hit
+hitOf region base name slot address = cond (leads region base name address) (Some (bodyAt region base slot address)) None
 
 -- the first of all hits
 abbrev pub firstOf : List Body → Hit

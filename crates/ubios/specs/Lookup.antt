@@ -30,24 +30,24 @@ passes (Passed table) = true
 passes (Failed reason) = false
 
 -- whether a slot with that address leads to a passing table of the name: "A slot of 0 is a gap", "A slot whose table fails its checks counts as none."
-unfoldable pub leads : ℕ → List ℕ → List ℕ → ℕ → Bool
-leads base region name address =
+unfoldable pub leads : List ℕ → ℕ → List ℕ → ℕ → Bool
+leads region base name address =
     not (isGap address)
-    && (passes (checked tableHeader base region address) && same (nameOf (tableAt base region address)) name)
+    && (passes (checked tableHeader region base address) && same (nameOf (tableAt region base address)) name)
 
 -- "the slot, counted from 0, and the body's place and length in the region: used part from byte 32 on"
 abbrev pub bodyOf : ℕ → Table → Body
 bodyOf slot table = record { slot = slot; at = table .at + tableHeader; length = table .used - tableHeader }
 
-abbrev pub bodyAt : ℕ → List ℕ → ℕ → ℕ → Body
-bodyAt base region slot address = bodyOf slot (record { at = address - base; used = usedOf (tableAt base region address) })
+abbrev pub bodyAt : List ℕ → ℕ → ℕ → ℕ → Body
+bodyAt region base slot address = bodyOf slot (record { at = address - base; used = usedOf (tableAt region base address) })
 
 -- the bodies of all slots that lead to a passing table of the name; the slots are counted from k on
-unfoldable pub hits : ℕ → List ℕ → List ℕ → ℕ → List ℕ → List Body
-hits base region name k [] = []
-hits base region name k (a ∷ slots) =
-    cond (leads base region name a) (bodyAt base region k a ∷ hits base region name (suc k) slots)
-    (hits base region name (suc k) slots)
+unfoldable pub hits : List ℕ → ℕ → List ℕ → ℕ → List ℕ → List Body
+hits region base name k [] = []
+hits region base name k (a ∷ slots) =
+    cond (leads region base name a) (bodyAt region base k a ∷ hits region base name (suc k) slots)
+    (hits region base name (suc k) slots)
 
 -- "38 if two slots or more lead to passing tables of that name (even by the same address), 37 if none does"
 abbrev pub answerOf : List Body → Found
@@ -56,15 +56,15 @@ answerOf (b ∷ []) = Only b
 answerOf (b ∷ c ∷ more) = Refused TwoTables
 
 -- the look-up in a memory with these slots
-abbrev pub lookedUp : ℕ → List ℕ → List ℕ → List ℕ → Found
-lookedUp base region name slots = answerOf (hits base region name 0 slots)
+abbrev pub lookedUp : List ℕ → ℕ → List ℕ → List ℕ → Found
+lookedUp region base name slots = answerOf (hits region base name 0 slots)
 
-abbrev pub inRoot : RootChecked → ℕ → List ℕ → ℕ → List ℕ → Found
-inRoot (RootFailed reason) base region address name = Refused reason
-inRoot (RootPassed root) base region address name = lookedUp base region name (slotsOf (tableAt base region address))
+abbrev pub inRoot : RootChecked → List ℕ → ℕ → ℕ → List ℕ → Found
+inRoot (RootFailed reason) region base address name = Refused reason
+inRoot (RootPassed root) region base address name = lookedUp region base name (slotsOf (tableAt region base address))
 
 -- "39 first .., then the root's refusals, then 38 .., 37"
-unfoldable pub found : ℕ → List ℕ → ℕ → List ℕ → Found
-found base region root name =
+unfoldable pub found : List ℕ → ℕ → ℕ → List ℕ → Found
+found region base root name =
     cond (badName name) (Refused BadName)
-    (inRoot (rootChecked base region root) base region root name)
+    (inRoot (rootChecked region base root) region base root name)

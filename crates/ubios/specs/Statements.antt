@@ -10,6 +10,7 @@ use lib.ListN.{length, take, drop}
 use Rattle.le.specs.Word.{word, bytes}
 use Rattle.le.specs.Sum.{sum, checksumOf}
 use Rattle.le.specs.Compare.{same}
+use Rattle.region.specs.Statements.{Inside}
 use Rattle.ubios.specs.Layout.{tableHeader, version, upToZero, nameOf, usedOf, rootName, slotsOf}
 use Rattle.ubios.specs.Checks.{numberOf, tableAt, checked, rootChecked}
 use Rattle.ubios.specs.Lookup.{badName, leads, bodyAt, found}
@@ -23,12 +24,6 @@ use Rattle.ubios.specs.declared.lookup.Body.{Body}
 use Rattle.ubios.specs.declared.lookup.Found.{Found}
 use Rattle.ubios.specs.declared.lookup.Found.the-variants.{Only, Refused}
 
--- a header of that size, at that address, lies in a region of `size` bytes that ends at 2^64 or before
-pub record Inside (header base size address : ℕ) : Type 0 where
-  pub top : base + size ≤ 2 ^ 64
-  pub start : base ≤ address
-  pub end : address + header ≤ base + size
-
 -- Total Size and Remaining Size of a table that has `size` bytes of the region
 pub record Sized (header size total remaining : ℕ) : Type 0 where
   pub holds : header ≤ total
@@ -37,146 +32,146 @@ pub record Sized (header size total remaining : ℕ) : Type 0 where
   pub left : remaining ≤ total - header
 
 -- Total Size and Remaining Size as they stand in memory
-abbrev pub totalIn : ℕ → List ℕ → ℕ → ℕ
-totalIn base region address = word 4 (drop 16 (tableAt base region address))
+abbrev pub totalIn : List ℕ → ℕ → ℕ → ℕ
+totalIn region base address = word 4 (drop 16 (tableAt region base address))
 
-abbrev pub remainingIn : ℕ → List ℕ → ℕ → ℕ
-remainingIn base region address = word 4 (drop 24 (tableAt base region address))
+abbrev pub remainingIn : List ℕ → ℕ → ℕ → ℕ
+remainingIn region base address = word 4 (drop 24 (tableAt region base address))
 
 -- `passes-only`. What passes is aligned, with its header in the region and its sizes in their bounds, has Version 1 and a used part that sums to 0; the answer is where
 -- it stands, and how long that part is.
-pub record Passing (header base : ℕ) (region : List ℕ) (address : ℕ) (table : Table) : Type 0 where
+pub record Passing (header : ℕ) (region : List ℕ) (base address : ℕ) (table : Table) : Type 0 where
   pub aligned : address % 8 ≡ 0
-  pub inside : Inside header base (length region) address
-  pub sized : Sized header (length (tableAt base region address)) (totalIn base region address) (remainingIn base region address)
-  pub one : word 1 (drop 20 (tableAt base region address)) ≡ 1
-  pub zero : sum 4 (take (totalIn base region address - remainingIn base region address) (tableAt base region address)) ≡ 0
-  pub is : table ≡ record { at = address - base; used = totalIn base region address - remainingIn base region address }
+  pub inside : Inside header (length region) base address
+  pub sized : Sized header (length (tableAt region base address)) (totalIn region base address) (remainingIn region base address)
+  pub one : word 1 (drop 20 (tableAt region base address)) ≡ 1
+  pub zero : sum 4 (take (totalIn region base address - remainingIn region base address) (tableAt region base address)) ≡ 0
+  pub is : table ≡ record { at = address - base; used = totalIn region base address - remainingIn region base address }
 
 abbrev pub PassesOnly : Type 0
 PassesOnly =
-    (header base : ℕ) (region : List ℕ) (address : ℕ) (table : Table)
-    → checked header base region address ≡ Passed table
-    → Passing header base region address table
+    (header : ℕ) (region : List ℕ) (base address : ℕ) (table : Table)
+    → checked header region base address ≡ Passed table
+    → Passing header region base address table
 
 -- `root-passes-only`. What passes as a root passes as a table with a header of 40, is named `root_table`, and has at most 128 slots, all in its used part; the answer
 -- has their number.
-pub record Rooted (base : ℕ) (region : List ℕ) (address : ℕ) (root : Root) : Type 0 where
-  pub table : Passing 40 base region address (root .table)
-  pub named : upToZero (take 16 (tableAt base region address)) ≡ rootName
+pub record Rooted (region : List ℕ) (base address : ℕ) (root : Root) : Type 0 where
+  pub table : Passing 40 region base address (root .table)
+  pub named : upToZero (take 16 (tableAt region base address)) ≡ rootName
   pub few : root .count ≤ 128
   pub room : 40 + 8 * root .count ≤ root .table .used
-  pub count : root .count ≡ word 2 (drop 32 (tableAt base region address))
+  pub count : root .count ≡ word 2 (drop 32 (tableAt region base address))
 
 abbrev pub RootPassesOnly : Type 0
 RootPassesOnly =
-    (base : ℕ) (region : List ℕ) (address : ℕ) (root : Root)
-    → rootChecked base region address ≡ RootPassed root
-    → Rooted base region address root
+    (region : List ℕ) (base address : ℕ) (root : Root)
+    → rootChecked region base address ≡ RootPassed root
+    → Rooted region base address root
 
 -- `root-refusals`. A root is refused with 30 to 36 and no other number, so 37, 38 and 39 come of the look-up alone.
 abbrev pub RootRefusals : Type 0
 RootRefusals =
-    (base : ℕ) (region : List ℕ) (address : ℕ) (reason : Reason)
-    → rootChecked base region address ≡ RootRefused reason
+    (region : List ℕ) (base address : ℕ) (reason : Reason)
+    → rootChecked region base address ≡ RootRefused reason
     → (30 ≤ numberOf reason) × (numberOf reason ≤ 36)
 
 -- none of these slots leads to a passing table of the name
-abbrev pub NoneLeads : ℕ → List ℕ → List ℕ → List ℕ → Type 0
-NoneLeads base region name [] = Unit {0}
-NoneLeads base region name (a ∷ slots) = (leads base region name a ≡ false) × NoneLeads base region name slots
+abbrev pub NoneLeads : List ℕ → ℕ → List ℕ → List ℕ → Type 0
+NoneLeads region base name [] = Unit {0}
+NoneLeads region base name (a ∷ slots) = (leads region base name a ≡ false) × NoneLeads region base name slots
 
 -- one slot among all does, and its number and body are these
-pub record OnlyOne (base : ℕ) (region : List ℕ) (root : ℕ) (name : List ℕ) (b : Body) : Type 0 where
+pub record OnlyOne (region : List ℕ) (base root : ℕ) (name : List ℕ) (b : Body) : Type 0 where
   pub before : List ℕ
   pub address : ℕ
   pub after : List ℕ
-  pub slots : slotsOf (tableAt base region root) ≡ before ++ (address ∷ after)
-  pub leads-there : leads base region name address ≡ true
-  pub none-before : NoneLeads base region name before
-  pub none-after : NoneLeads base region name after
-  pub is : b ≡ bodyAt base region (length before) address
+  pub slots : slotsOf (tableAt region base root) ≡ before ++ (address ∷ after)
+  pub leads-there : leads region base name address ≡ true
+  pub none-before : NoneLeads region base name before
+  pub none-after : NoneLeads region base name after
+  pub is : b ≡ bodyAt region base (length before) address
 
 -- two among all do, at different places; their addresses may be the same
-pub record TwoLead (base : ℕ) (region : List ℕ) (root : ℕ) (name : List ℕ) : Type 0 where
+pub record TwoLead (region : List ℕ) (base root : ℕ) (name : List ℕ) : Type 0 where
   pub before : List ℕ
   pub first : ℕ
   pub between : List ℕ
   pub second : ℕ
   pub after : List ℕ
-  pub slots : slotsOf (tableAt base region root) ≡ before ++ (first ∷ (between ++ (second ∷ after)))
-  pub first-leads : leads base region name first ≡ true
-  pub second-leads : leads base region name second ≡ true
+  pub slots : slotsOf (tableAt region base root) ≡ before ++ (first ∷ (between ++ (second ∷ after)))
+  pub first-leads : leads region base name first ≡ true
+  pub second-leads : leads region base name second ≡ true
 
 -- the look-up comes to the slots: the name can be sought, and the root passes
-pub record Walked (base : ℕ) (region : List ℕ) (root : ℕ) (name : List ℕ) : Type 0 where
+pub record Walked (region : List ℕ) (base root : ℕ) (name : List ℕ) : Type 0 where
   pub sought : badName name ≡ false
   pub root-table : Root
-  pub root-passes : rootChecked base region root ≡ RootPassed root-table
+  pub root-passes : rootChecked region base root ≡ RootPassed root-table
 
 -- `found-only`, `only-found`. A body is found exactly where the name can be sought, the root passes, and one slot among all leads to a passing table of the name,
 -- wherever it stands; and it is that table's.
 abbrev pub FoundOnly : Type 0
 FoundOnly =
-    (base : ℕ) (region : List ℕ) (root : ℕ) (name : List ℕ) (b : Body)
-    → found base region root name ≡ Only b
-    → Walked base region root name × OnlyOne base region root name b
+    (region : List ℕ) (base root : ℕ) (name : List ℕ) (b : Body)
+    → found region base root name ≡ Only b
+    → Walked region base root name × OnlyOne region base root name b
 
 abbrev pub OnlyFound : Type 0
 OnlyFound =
-    (base : ℕ) (region : List ℕ) (root : ℕ) (name : List ℕ) (b : Body)
-    → Walked base region root name
-    → OnlyOne base region root name b
-    → found base region root name ≡ Only b
+    (region : List ℕ) (base root : ℕ) (name : List ℕ) (b : Body)
+    → Walked region base root name
+    → OnlyOne region base root name b
+    → found region base root name ≡ Only b
 
 -- `found-none`, `none-found`. 37 is given exactly where the name can be sought, the root passes, and no slot leads to a passing table of the name.
 abbrev pub FoundNone : Type 0
 FoundNone =
-    (base : ℕ) (region : List ℕ) (root : ℕ) (name : List ℕ)
-    → found base region root name ≡ Refused NoTable
-    → Walked base region root name × NoneLeads base region name (slotsOf (tableAt base region root))
+    (region : List ℕ) (base root : ℕ) (name : List ℕ)
+    → found region base root name ≡ Refused NoTable
+    → Walked region base root name × NoneLeads region base name (slotsOf (tableAt region base root))
 
 abbrev pub NoneFound : Type 0
 NoneFound =
-    (base : ℕ) (region : List ℕ) (root : ℕ) (name : List ℕ)
-    → Walked base region root name
-    → NoneLeads base region name (slotsOf (tableAt base region root))
-    → found base region root name ≡ Refused NoTable
+    (region : List ℕ) (base root : ℕ) (name : List ℕ)
+    → Walked region base root name
+    → NoneLeads region base name (slotsOf (tableAt region base root))
+    → found region base root name ≡ Refused NoTable
 
 -- `found-two`, `two-found`. 38 is given exactly where the name can be sought, the root passes, and two slots or more lead to passing tables of the name.
 abbrev pub FoundTwo : Type 0
 FoundTwo =
-    (base : ℕ) (region : List ℕ) (root : ℕ) (name : List ℕ)
-    → found base region root name ≡ Refused TwoTables
-    → Walked base region root name × TwoLead base region root name
+    (region : List ℕ) (base root : ℕ) (name : List ℕ)
+    → found region base root name ≡ Refused TwoTables
+    → Walked region base root name × TwoLead region base root name
 
 abbrev pub TwoFound : Type 0
 TwoFound =
-    (base : ℕ) (region : List ℕ) (root : ℕ) (name : List ℕ)
-    → Walked base region root name
-    → TwoLead base region root name
-    → found base region root name ≡ Refused TwoTables
+    (region : List ℕ) (base root : ℕ) (name : List ℕ)
+    → Walked region base root name
+    → TwoLead region base root name
+    → found region base root name ≡ Refused TwoTables
 
 -- `behind-gap`. A table behind a gap is found, wherever the gap stands before it.
 abbrev pub BehindGap : Type 0
 BehindGap =
-    (base : ℕ) (region : List ℕ) (root : ℕ) (name : List ℕ) (r : Root) (before between : List ℕ) (address : ℕ) (after : List ℕ)
+    (region : List ℕ) (base root : ℕ) (name : List ℕ) (r : Root) (before between : List ℕ) (address : ℕ) (after : List ℕ)
     → badName name ≡ false
-    → rootChecked base region root ≡ RootPassed r
-    → slotsOf (tableAt base region root) ≡ before ++ (0 ∷ (between ++ (address ∷ after)))
-    → leads base region name address ≡ true
-    → NoneLeads base region name before
-    → NoneLeads base region name between
-    → NoneLeads base region name after
-    → found base region root name ≡ Only (bodyAt base region (length before + suc (length between)) address)
+    → rootChecked region base root ≡ RootPassed r
+    → slotsOf (tableAt region base root) ≡ before ++ (0 ∷ (between ++ (address ∷ after)))
+    → leads region base name address ≡ true
+    → NoneLeads region base name before
+    → NoneLeads region base name between
+    → NoneLeads region base name after
+    → found region base root name ≡ Only (bodyAt region base (length before + suc (length between)) address)
 
 -- in two regions from the same address on, slots with these addresses lead to the same tables of the name, or to none
-abbrev pub SameTables : ℕ → List ℕ → List ℕ → List ℕ → List ℕ → Type 0
-SameTables base region region′ name [] = Unit {0}
-SameTables base region region′ name (a ∷ slots) =
-    (leads base region′ name a ≡ leads base region name a)
-    × (leads base region name a ≡ true → usedOf (tableAt base region′ a) ≡ usedOf (tableAt base region a))
-    × SameTables base region region′ name slots
+abbrev pub SameTables : List ℕ → List ℕ → ℕ → List ℕ → List ℕ → Type 0
+SameTables region region′ base name [] = Unit {0}
+SameTables region region′ base name (a ∷ slots) =
+    (leads region′ base name a ≡ leads region base name a)
+    × (leads region base name a ≡ true → usedOf (tableAt region′ base a) ≡ usedOf (tableAt region base a))
+    × SameTables region region′ base name slots
 
 -- the answer with the number of each slot from k on one higher
 abbrev pub movedOn : ℕ → Found → Found
@@ -187,27 +182,27 @@ movedOn k (Only b) = Only (record { slot = cond (ltb (b .slot) k) (b .slot) (suc
 -- slots lead to the same tables of the name.
 abbrev pub GapAdded : Type 0
 GapAdded =
-    (base : ℕ) (region region′ : List ℕ) (root root′ : ℕ) (name : List ℕ) (r r′ : Root) (before after : List ℕ)
-    → rootChecked base region root ≡ RootPassed r
-    → rootChecked base region′ root′ ≡ RootPassed r′
-    → slotsOf (tableAt base region root) ≡ before ++ after
-    → slotsOf (tableAt base region′ root′) ≡ before ++ (0 ∷ after)
-    → SameTables base region region′ name (before ++ after)
-    → found base region′ root′ name ≡ movedOn (length before) (found base region root name)
+    (region region′ : List ℕ) (base root root′ : ℕ) (name : List ℕ) (r r′ : Root) (before after : List ℕ)
+    → rootChecked region base root ≡ RootPassed r
+    → rootChecked region′ base root′ ≡ RootPassed r′
+    → slotsOf (tableAt region base root) ≡ before ++ after
+    → slotsOf (tableAt region′ base root′) ≡ before ++ (0 ∷ after)
+    → SameTables region region′ base name (before ++ after)
+    → found region′ base root′ name ≡ movedOn (length before) (found region base root name)
 
 -- `body-inside`. The body that is found lies inside the region.
 abbrev pub BodyInside : Type 0
 BodyInside =
-    (base : ℕ) (region : List ℕ) (root : ℕ) (name : List ℕ) (b : Body)
-    → found base region root name ≡ Only b
+    (region : List ℕ) (base root : ℕ) (name : List ℕ) (b : Body)
+    → found region base root name ≡ Only b
     → b .at + b .length ≤ length region
 
 -- `body-bytes`. The body of a slot is the used part, from byte 32 on, of the table at its address.
 abbrev pub BodyBytes : Type 0
 BodyBytes =
-    (base : ℕ) (region : List ℕ) (slot address : ℕ)
-    → take (bodyAt base region slot address .length) (drop (bodyAt base region slot address .at) region)
-    ≡ drop tableHeader (take (usedOf (tableAt base region address)) (tableAt base region address))
+    (region : List ℕ) (base slot address : ℕ)
+    → take (bodyAt region base slot address .length) (drop (bodyAt region base slot address .at) region)
+    ≡ drop tableHeader (take (usedOf (tableAt region base address)) (tableAt region base address))
 
 -- a table as the rules lay it out: the name's 16 bytes, Total Size, Version, three bytes reserved, Remaining Size, Checksum, and the body
 abbrev pub headOf : List ℕ → ℕ → List ℕ → ℕ → List ℕ
@@ -233,7 +228,7 @@ LaidPasses =
     (header base : ℕ) (front field reserved : List ℕ) (remaining : ℕ) (body rest : List ℕ)
     → header ≤ tableHeader + length body
     → Laid base front field reserved remaining body rest
-    → checked header base (front ++ (tableOf field reserved remaining body ++ rest)) (base + length front)
+    → checked header (front ++ (tableOf field reserved remaining body ++ rest)) base (base + length front)
     ≡ Passed (record { at = length front; used = tableHeader + length body })
 
 -- what may follow a name in its field: a zero and anything, or nothing where the name fills the field
@@ -248,7 +243,7 @@ LaidName =
     → badName name ≡ false
     → EndsName end
     → length (name ++ end) ≡ 16
-    → nameOf (tableAt base (front ++ ((name ++ end) ++ behind)) (base + length front)) ≡ name
+    → nameOf (tableAt (front ++ ((name ++ end) ++ behind)) base (base + length front)) ≡ name
 
 -- the slots of a root, one after another
 unfoldable pub slotBytes : List ℕ → List ℕ
@@ -265,9 +260,9 @@ abbrev pub rootBody : List ℕ → List ℕ → List ℕ → List ℕ
 rootBody six slots more = bytes 2 (length slots) ++ (six ++ (slotBytes slots ++ more))
 
 -- `laid-root`. Each root that is laid out by the rules, with at most 128 slots, passes the checks of a root, and its slots are those that were laid out.
-pub record RootLaid (base : ℕ) (region : List ℕ) (root at used : ℕ) (slots : List ℕ) : Type 0 where
-  pub passes : rootChecked base region root ≡ RootPassed (record { table = record { at = at; used = used }; count = length slots })
-  pub slots-are : slotsOf (tableAt base region root) ≡ slots
+pub record RootLaid (region : List ℕ) (base root at used : ℕ) (slots : List ℕ) : Type 0 where
+  pub passes : rootChecked region base root ≡ RootPassed (record { table = record { at = at; used = used }; count = length slots })
+  pub slots-are : slotsOf (tableAt region base root) ≡ slots
 
 abbrev pub LaidRoot : Type 0
 LaidRoot =
@@ -276,11 +271,11 @@ LaidRoot =
     → length slots ≤ 128
     → Addresses slots
     → Laid base front (rootName ++ (0 ∷ junk)) reserved remaining (rootBody six slots more) rest
-    → RootLaid base (front ++ (tableOf (rootName ++ (0 ∷ junk)) reserved remaining (rootBody six slots more) ++ rest)) (base + length front) (length front)
+    → RootLaid (front ++ (tableOf (rootName ++ (0 ∷ junk)) reserved remaining (rootBody six slots more) ++ rest)) base (base + length front) (length front)
     (tableHeader + length (rootBody six slots more)) slots
 
 -- in that memory a table of that name, with that body, is laid out by the rules at that address
-pub record TableIn (base : ℕ) (region : List ℕ) (address : ℕ) (name body : List ℕ) : Type 0 where
+pub record TableIn (region : List ℕ) (base address : ℕ) (name body : List ℕ) : Type 0 where
   pub front : List ℕ
   pub end : List ℕ
   pub reserved : List ℕ
@@ -293,7 +288,7 @@ pub record TableIn (base : ℕ) (region : List ℕ) (address : ℕ) (name body :
   pub laid : Laid base front (name ++ end) reserved remaining body rest
 
 -- and a root with these slots
-pub record RootIn (base : ℕ) (region : List ℕ) (root : ℕ) (slots : List ℕ) : Type 0 where
+pub record RootIn (region : List ℕ) (base root : ℕ) (slots : List ℕ) : Type 0 where
   pub front : List ℕ
   pub junk : List ℕ
   pub reserved : List ℕ
@@ -311,19 +306,19 @@ pub record RootIn (base : ℕ) (region : List ℕ) (root : ℕ) (slots : List �
 -- `laid-leads`. A slot with the address, not 0, of a table that is laid out by the rules leads to a passing table of a name exactly if the name is the table's.
 abbrev pub LaidLeads : Type 0
 LaidLeads =
-    (base : ℕ) (region : List ℕ) (address : ℕ) (own body name : List ℕ)
-    → TableIn base region address own body
+    (region : List ℕ) (base address : ℕ) (own body name : List ℕ)
+    → TableIn region base address own body
     → (address ≡ 0 → ⊥)
-    → leads base region name address ≡ same own name
+    → leads region base name address ≡ same own name
 
 -- `laid-found`. In a memory with a root and a table, both laid out by the rules, the table is found by its name if one slot has its address, not 0, and no other slot
 -- leads to a passing table of that name; the answer is that slot and the table's body.
 abbrev pub LaidFound : Type 0
 LaidFound =
-    (base : ℕ) (region : List ℕ) (root address : ℕ) (name body before after : List ℕ)
-    → RootIn base region root (before ++ (address ∷ after))
-    → TableIn base region address name body
+    (region : List ℕ) (base root address : ℕ) (name body before after : List ℕ)
+    → RootIn region base root (before ++ (address ∷ after))
+    → TableIn region base address name body
     → (address ≡ 0 → ⊥)
-    → NoneLeads base region name before
-    → NoneLeads base region name after
-    → found base region root name ≡ Only (record { slot = length before; at = address - base + tableHeader; length = length body })
+    → NoneLeads region base name before
+    → NoneLeads region base name after
+    → found region base root name ≡ Only (record { slot = length before; at = address - base + tableHeader; length = length body })

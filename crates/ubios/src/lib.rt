@@ -6,10 +6,8 @@ mod name;
 
 use name::is_named;
 ghost use mathlib.Core.Path.{_≡_};
-ghost use Prim.Native.Nat.{_+_, _^_};
-ghost use lib.Dec.{ltb};
 ghost use Rattle.ubios.specs.Layout.{tableHeader};
-ghost use Rattle.ubios.specs.Checks.{numberOf, outside, badSize, judged, checked, rootJudged, rootChecked};
+ghost use Rattle.ubios.specs.Checks.{numberOf, badSize, judged, checked, rootJudged, rootChecked};
 
 // A table that passes its checks: where it stands in the region, and the length of its used part.
 pub struct Table {
@@ -77,33 +75,6 @@ impl Reason {
     }
 }
 
-// Whether a region runs past 2^64. The sum of base and size is not taken, so it cannot wrap.
-fn runs_past(base: u64, size: usize) -> bool
-    ensures { λ r. ⌜ r ≡ ltb (2 ^ 64) (base + size) ⌝ }
-{
-    if size == 0 {
-        return false;
-    }
-    u64::MAX - base < size as u64 - 1
-}
-
-// Whether the region runs past 2^64, or does not hold `header` bytes from the address on.
-fn is_outside(header: usize, base: u64, size: usize, address: u64) -> bool
-    ensures { λ r. ⌜ r ≡ outside header base size address ⌝ }
-{
-    if runs_past(base, size) {
-        return true;
-    }
-    if address < base {
-        return true;
-    }
-    let at = address - base;
-    if (size as u64) < at {
-        return true;
-    }
-    size as u64 - at < header as u64
-}
-
 // Whether Total Size or Remaining Size is not legal in a table that has `size` bytes of the region.
 fn is_bad_size(header: usize, size: usize, total: usize, remaining: usize) -> bool
     ensures { λ r. ⌜ r ≡ badSize header size total remaining ⌝ }
@@ -141,10 +112,10 @@ fn judge(header: usize, at: usize, table: &[u8]) -> Checked
 
 // The checks of a table with a header of that size.
 fn check(header: usize, region: &[u8], base: u64, address: u64) -> Checked
-    ensures { λ r. ⌜ r ≡ checked header base (now (region .entry)) address ⌝ }
+    ensures { λ r. ⌜ r ≡ checked header (now (region .entry)) base address ⌝ }
 {
     let misaligned = address % 8 != 0;
-    let outside = is_outside(header, base, region.len(), address);
+    let outside = region::is_outside(header, region.len(), base, address);
     if misaligned {
         return Checked::Refused(Reason::Misaligned);
     }
@@ -164,7 +135,7 @@ impl Table {
 
     // The table at an address, or the first reason to refuse it.
     pub fn check(region: &[u8], base: u64, address: u64) -> Checked
-        ensures { λ r. ⌜ r ≡ checked tableHeader base (now (region .entry)) address ⌝ }
+        ensures { λ r. ⌜ r ≡ checked tableHeader (now (region .entry)) base address ⌝ }
     {
         check(Self::HEADER, region, base, address)
     }
@@ -196,7 +167,7 @@ impl Root {
 
     // The root table at an address, or the first reason to refuse it.
     pub fn check(region: &[u8], base: u64, address: u64) -> RootChecked
-        ensures { λ r. ⌜ r ≡ rootChecked base (now (region .entry)) address ⌝ }
+        ensures { λ r. ⌜ r ≡ rootChecked (now (region .entry)) base address ⌝ }
     {
         match check(Self::HEADER, region, base, address) {
             Checked::Refused(reason) => RootChecked::Refused(reason),

@@ -37,7 +37,7 @@ enum Hit {
 // since it is the cheaper test.
 fn follow(region: &[u8], base: u64, name: &[u8], slot: usize, address: u64) -> Hit
     requires { ⌜ badName (now name) ≡ false ⌝ }
-    ensures { λ r. ⌜ r ≡ hitOf base (now (region .entry)) (now (name .entry)) slot address ⌝ }
+    ensures { λ r. ⌜ r ≡ hitOf (now (region .entry)) base (now (name .entry)) slot address ⌝ }
 {
     if address == 0 {
         return Hit::None;
@@ -62,7 +62,7 @@ fn follow(region: &[u8], base: u64, name: &[u8], slot: usize, address: u64) -> H
 // The first hit among the slots from one on.
 fn next_hit(region: &[u8], base: u64, name: &[u8], slots: &[u8], count: usize, from: usize) -> Hit
     requires { ⌜ (count ≤ countMax) × (badName (now name) ≡ false) ⌝ }
-    ensures { λ r. ⌜ r ≡ firstOf (hits base (now (region .entry)) (now (name .entry)) from (addresses (count - from) (drop (8 * from) (now (slots .entry))))) ⌝ }
+    ensures { λ r. ⌜ r ≡ firstOf (hits (now (region .entry)) base (now (name .entry)) from (addresses (count - from) (drop (8 * from) (now (slots .entry))))) ⌝ }
 {
     let mut slot = from;
     while slot < count {
@@ -80,7 +80,7 @@ fn next_hit(region: &[u8], base: u64, name: &[u8], slots: &[u8], count: usize, f
 // Every slot is walked, until two hits are met: a gap ends nothing.
 fn walk(region: &[u8], base: u64, name: &[u8], slots: &[u8], count: usize) -> Found
     requires { ⌜ (count ≤ countMax) × (badName (now name) ≡ false) ⌝ }
-    ensures { λ r. ⌜ r ≡ lookedUp base (now (region .entry)) (now (name .entry)) (addresses count (now (slots .entry))) ⌝ }
+    ensures { λ r. ⌜ r ≡ lookedUp (now (region .entry)) base (now (name .entry)) (addresses count (now (slots .entry))) ⌝ }
 {
     match next_hit(region, base, name, slots, count, 0) {
         Hit::None => Found::Refused(Reason::NoTable),
@@ -94,7 +94,7 @@ fn walk(region: &[u8], base: u64, name: &[u8], slots: &[u8], count: usize) -> Fo
 // The body of the one passing table of that name to which the root at an address leads, or the first reason
 // to refuse.
 pub fn find(region: &[u8], base: u64, root: u64, name: &[u8]) -> Found
-    ensures { λ r. ⌜ r ≡ found base (now (region .entry)) root (now (name .entry)) ⌝ }
+    ensures { λ r. ⌜ r ≡ found (now (region .entry)) base root (now (name .entry)) ⌝ }
 {
     if is_bad_name(name) {
         return Found::Refused(Reason::BadName);

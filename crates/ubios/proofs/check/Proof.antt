@@ -6,8 +6,10 @@ use mathlib.Core.List.{List}
 use Prim.Native.Nat.{ℕ, _-_, _%_}
 use borrow.Author.Tests.{eqb-true, eqb-false, not-true, not-false}
 use lib.ListN.{length}
-use Rattle.ubios.specs.Checks.{outside, judged}
-use Rattle.ubios.proofs.Answers.{inside, misaligned, is-outside, is-inside}
+use Rattle.region.specs.Region.{outside}
+use Rattle.region.proofs.Answers.{not-outside}
+use Rattle.ubios.specs.Checks.{judged}
+use Rattle.ubios.proofs.Answers.{misaligned, is-outside, held as is-held}
 use borrow.Author.Needs.{needs}
 use Rattle.ubios.proofs.check.Statement.{statement}
 use Rattle.ubios.proofs.check.Tie as tie
@@ -23,21 +25,21 @@ aligned : (c : tie.Else1) → start (c .before) .args .address % 8 ≡ 0
 aligned c = eqb-true _ 0 (not-false _ (c .if1 .left))
 
 held : (c : tie.Else2)
-    → outside (start (c .before .before) .args .header) (start (c .before .before) .args .base) (length (start (c .before .before) .args .region .now)) (start (c .before .before) .args .address) ≡ false
+    → outside (start (c .before .before) .args .header) (length (start (c .before .before) .args .region .now)) (start (c .before .before) .args .base) (start (c .before .before) .args .address) ≡ false
 held c = sym (c .before .before .is-outside .ensures) ∙ c .if2 .left
 
 returns : tie.Need-returns
 returns c =
     let a = start (c .before) .args in
-    sym (misaligned (a .header) (a .base) (a .region .now) (a .address) (eqb-false _ 0 (not-true _ (c .if1 .taken))))
+    sym (misaligned (a .header) (a .region .now) (a .base) (a .address) (eqb-false _ 0 (not-true _ (c .if1 .taken))))
 
 returns-2 : tie.Need-returns-2
 returns-2 c =
     let a = start (c .before .before) .args in
-    sym (is-outside (a .header) (a .base) (a .region .now) (a .address) (aligned (c .before)) (sym (c .before .before .is-outside .ensures) ∙ c .if2 .taken))
+    sym (is-outside (a .header) (a .region .now) (a .base) (a .address) (aligned (c .before)) (sym (c .before .before .is-outside .ensures) ∙ c .if2 .taken))
 
 sub-at : tie.Need-sub-at
-sub-at c = inside _ _ _ _ (held c) .start
+sub-at c = not-outside _ _ _ _ (held c) .start
 
 tail-requires : tie.Need-tail-requires
 tail-requires c κs = search needs
@@ -51,7 +53,7 @@ returns-3 c =
     let a = start (at-held .before .before) .args in
     c .judge .ensures
     ∙ ap (λ (t : List ℕ). judged (a .header) (a .address - a .base) t) (c .before .tail .ensures)
-    ∙ sym (is-inside (a .header) (a .base) (a .region .now) (a .address) (aligned (at-held .before)) (held at-held))
+    ∙ sym (is-held (a .header) (a .region .now) (a .base) (a .address) (aligned (at-held .before)) (held at-held))
 
 pub check-spec : {M : Type 1} → statement M
 check-spec =

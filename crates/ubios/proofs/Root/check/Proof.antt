@@ -28,7 +28,7 @@ judge-requires c κs = search needs
 returns : tie.Need-returns
 returns c =
     let a = c .before .before .before .before .before .args in
-    sym (root-refused (a .base) (a .region .now) (a .address) _ (sym (c .before .before .before .check .ensures) ∙ c .before .reason .given .1))
+    sym (root-refused (a .region .now) (a .base) (a .address) _ (sym (c .before .before .before .check .ensures) ∙ c .before .reason .given .1))
 
 returns-2 : tie.Need-returns-2
 returns-2 c =
@@ -36,8 +36,8 @@ returns-2 c =
     let a = at-match .before .before .before .before .args in
     let passed = sym (at-match .before .before .check .ensures) ∙ at-match .table .given .1 in
     c .judge .ensures
-    ∙ ap (rootJudged _) (c .before .tail .ensures ∙ ap (λ (t : Table). drop (t .at) (a .region .now)) (passes-only rootHeader (a .base) (a .region .now) (a .address) _ passed .is))
-    ∙ sym (root-judged (a .base) (a .region .now) (a .address) _ passed)
+    ∙ ap (rootJudged _) (c .before .tail .ensures ∙ ap (λ (t : Table). drop (t .at) (a .region .now)) (passes-only rootHeader (a .region .now) (a .base) (a .address) _ passed .is))
+    ∙ sym (root-judged (a .region .now) (a .base) (a .address) _ passed)
 
 pub check-spec : {M : Type 1} → statement M
 check-spec =

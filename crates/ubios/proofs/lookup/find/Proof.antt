@@ -23,7 +23,7 @@ is-bad-name-requires c κs = search needs
 returns : tie.Need-returns
 returns c =
     let a = c .before .before .before .before .args in
-    sym (bad-name (a .base) (a .region .now) (a .root) (a .name .now) (sym (c .before .is-bad-name .ensures) ∙ c .if1 .taken))
+    sym (bad-name (a .region .now) (a .base) (a .root) (a .name .now) (sym (c .before .is-bad-name .ensures) ∙ c .if1 .taken))
 
 good : (c : tie.Else1) → badName (c .before .before .before .before .args .name .now) ≡ false
 good c = sym (c .before .is-bad-name .ensures) ∙ c .if1 .left
@@ -48,12 +48,12 @@ abbrev start : tie.After-tail2 → tie.Start
 start c = c .before .before .before .before .before .before .before .before .before .before .before
 
 passed : (c : tie.After-tail2)
-    → rootChecked (start c .args .base) (start c .args .region .now) (start c .args .root) ≡ Passed (c .before .before .before .before .r .given .0 .0)
+    → rootChecked (start c .args .region .now) (start c .args .base) (start c .args .root) ≡ Passed (c .before .before .before .before .r .given .0 .0)
 passed c = sym (c .before .before .before .before .before .before .check .ensures) ∙ c .before .before .before .before .r .given .1
 
 known : (c : tie.After-tail2)
-    → Rooted (start c .args .base) (start c .args .region .now) (start c .args .root) (c .before .before .before .before .r .given .0 .0)
-known c = let a = start c .args in root-passes-only (a .base) (a .region .now) (a .root) _ (passed c)
+    → Rooted (start c .args .region .now) (start c .args .base) (start c .args .root) (c .before .before .before .before .r .given .0 .0)
+known c = let a = start c .args in root-passes-only (a .region .now) (a .base) (a .root) _ (passed c)
 
 walk-requires : tie.Need-walk-requires
 walk-requires c κs = (known c .few, good (c .before .before .before .before .before .before .before))
@@ -62,7 +62,7 @@ returns-2 : tie.Need-returns-2
 returns-2 c =
     let a = c .before .before .before .before .before .before .before .before .args in
     let refused = sym (c .before .before .before .check .ensures) ∙ c .before .reason .given .1 in
-    sym (no-root (a .base) (a .region .now) (a .root) (a .name .now) (good (c .before .before .before .before)) _ refused)
+    sym (no-root (a .region .now) (a .base) (a .root) (a .name .now) (good (c .before .before .before .before)) _ refused)
 
 returns-3 : tie.Need-returns-3
 returns-3 c =
@@ -71,8 +71,8 @@ returns-3 c =
     let table-at = ap (λ (t : Table). drop (t .at) (a .region .now)) (known at-root .table .is) in
     let slots = at-root .tail2 .ensures ∙ ap (drop rootHeader) (at-root .before .tail .ensures ∙ table-at) in
     c .walk .ensures
-    ∙ ap₂ (λ (n : ℕ) (s : List ℕ). lookedUp (a .base) (a .region .now) (a .name .now) (addresses n s)) (known at-root .count) slots
-    ∙ sym (in-root (a .base) (a .region .now) (a .root) (a .name .now) (good (at-root .before .before .before .before .before .before .before)) _ (passed at-root))
+    ∙ ap₂ (λ (n : ℕ) (s : List ℕ). lookedUp (a .region .now) (a .base) (a .name .now) (addresses n s)) (known at-root .count) slots
+    ∙ sym (in-root (a .region .now) (a .base) (a .root) (a .name .now) (good (at-root .before .before .before .before .before .before .before)) _ (passed at-root))
 
 pub find-spec : {M : Type 1} → statement M
 find-spec =

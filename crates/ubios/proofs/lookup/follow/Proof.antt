@@ -19,18 +19,18 @@ abbrev start : tie.After-is-named → tie.Start
 start c = c .before .before .before .before .before .before
 
 tested : (c : tie.After-is-named)
-    → c .is-named .result ≡ same (nameOf (tableAt (start c .args .base) (start c .args .region .now) (start c .args .address))) (start c .args .name .now)
+    → c .is-named .result ≡ same (nameOf (tableAt (start c .args .region .now) (start c .args .base) (start c .args .address))) (start c .args .name .now)
 tested c = c .is-named .ensures ∙ ap (λ (t : List ℕ). same (nameOf t) (start c .args .name .now)) (c .before .tail .ensures)
 
 returns : tie.Need-returns
 returns c =
     let a = c .before .before .before .args in
-    sym (no-hit (a .base) (a .region .now) (a .name .now) (a .address) (a .slot) (at-gap (a .base) (a .region .now) (a .name .now) (a .address) (eq-eqb _ _ (c .if1 .taken))))
+    sym (no-hit (a .region .now) (a .base) (a .name .now) (a .address) (a .slot) (at-gap (a .region .now) (a .base) (a .name .now) (a .address) (eq-eqb _ _ (c .if1 .taken))))
 
 returns-2 : tie.Need-returns-2
 returns-2 c =
     let a = c .before .before .before .before .args in
-    sym (no-hit (a .base) (a .region .now) (a .name .now) (a .address) (a .slot) (below-region (a .base) (a .region .now) (a .name .now) (a .address) (c .if2 .taken)))
+    sym (no-hit (a .region .now) (a .base) (a .name .now) (a .address) (a .slot) (below-region (a .region .now) (a .base) (a .name .now) (a .address) (c .if2 .taken)))
 
 tail-requires : tie.Need-tail-requires
 tail-requires c κs = search needs
@@ -42,7 +42,7 @@ returns-3 : tie.Need-returns-3
 returns-3 c =
     let a = start (c .before) .args in
     let other = sym (tested (c .before)) ∙ not-true _ (c .if3 .taken) in
-    sym (no-hit (a .base) (a .region .now) (a .name .now) (a .address) (a .slot) (other-name (a .base) (a .region .now) (a .name .now) (a .address) other))
+    sym (no-hit (a .region .now) (a .base) (a .name .now) (a .address) (a .slot) (other-name (a .region .now) (a .base) (a .name .now) (a .address) other))
 
 check-requires : tie.Need-check-requires
 check-requires c κs = search needs
@@ -58,7 +58,7 @@ abbrev entry : tie.After-struct-known → tie.Start
 entry c = start (c .before .before .before .before .before .before)
 
 passed : (c : tie.After-struct-known)
-    → checked tableHeader (entry c .args .base) (entry c .args .region .now) (entry c .args .address) ≡ Passed (c .before .before .table .given .0 .0)
+    → checked tableHeader (entry c .args .region .now) (entry c .args .base) (entry c .args .address) ≡ Passed (c .before .before .table .given .0 .0)
 passed c = sym (c .before .before .before .before .check .ensures) ∙ c .before .before .table .given .1
 
 add-t14 : tie.Need-add-t14
@@ -72,13 +72,13 @@ returns-4 c =
     let at-check = c .before .before in
     let a = start (at-check .before .before) .args in
     let failed = sym (at-check .check .ensures) ∙ c .enum-told .given .1 in
-    sym (no-hit (a .base) (a .region .now) (a .name .now) (a .address) (a .slot) (fails (a .base) (a .region .now) (a .name .now) (a .address) _ failed))
+    sym (no-hit (a .region .now) (a .base) (a .name .now) (a .address) (a .slot) (fails (a .region .now) (a .base) (a .name .now) (a .address) _ failed))
 
 returns-5 : tie.Need-returns-5
 returns-5 c =
     let a = entry (c .before) .args in
     let at-name = c .before .before .before .before .before .before in
-    sym (hit (a .base) (a .region .now) (a .name .now) (a .address) (a .slot) _ (ne-eqb _ _ (at-name .before .before .before .before .if1 .left)) (passed (c .before)) (sym (tested (at-name .before)) ∙ not-false _ (at-name .if3 .left)))
+    sym (hit (a .region .now) (a .base) (a .name .now) (a .address) (a .slot) _ (ne-eqb _ _ (at-name .before .before .before .before .if1 .left)) (passed (c .before)) (sym (tested (at-name .before)) ∙ not-false _ (at-name .if3 .left)))
 
 pub follow-spec : {M : Type 1} → statement M
 follow-spec =

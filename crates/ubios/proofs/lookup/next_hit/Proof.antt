@@ -15,8 +15,8 @@ use Rattle.ubios.proofs.lookup.next_hit.Tie as tie
 
 abbrev Inv-loop : tie.InvT-loop
 Inv-loop region base name slots count from slot₀ slot =
-    hits base region name slot (addresses (count - slot) (drop (8 * slot) slots))
-    ≡ hits base region name from (addresses (count - from) (drop (8 * from) slots))
+    hits region base name slot (addresses (count - slot) (drop (8 * slot) slots))
+    ≡ hits region base name from (addresses (count - from) (drop (8 * from) slots))
 
 abbrev μ-loop : tie.MeasureT-loop
 μ-loop region base name slots count from slot₀ slot = count - slot
@@ -50,20 +50,20 @@ abbrev address : tie.After-follow Inv-loop μ-loop → ℕ
 address c = word 8 (drop (8 * slot c) (start c .args .slots .now))
 
 follows : (c : tie.After-follow Inv-loop μ-loop)
-    → c .follow .result ≡ hitOf (start c .args .base) (start c .args .region .now) (start c .args .name .now) (slot c) (address c)
+    → c .follow .result ≡ hitOf (start c .args .region .now) (start c .args .base) (start c .args .name .now) (slot c) (address c)
 follows c =
     let a = start c .args in
-    c .follow .ensures ∙ ap (hitOf (a .base) (a .region .now) (a .name .now) (slot c)) (c .before .u64-at .ensures)
+    c .follow .ensures ∙ ap (hitOf (a .region .now) (a .base) (a .name .now) (slot c)) (c .before .u64-at .ensures)
 
 -- so far as the slots are walked, what is met from this one on is all
 rest : (c : tie.After-follow Inv-loop μ-loop)
-    → hits (start c .args .base) (start c .args .region .now) (start c .args .name .now) (slot c)
+    → hits (start c .args .region .now) (start c .args .base) (start c .args .name .now) (slot c)
     (address c ∷ addresses (start c .args .count - (slot c + 1)) (drop (8 * (slot c + 1)) (start c .args .slots .now)))
-    ≡ hits (start c .args .base) (start c .args .region .now) (start c .args .name .now) (start c .args .from)
+    ≡ hits (start c .args .region .now) (start c .args .base) (start c .args .name .now) (start c .args .from)
     (addresses (start c .args .count - start c .args .from) (drop (8 * start c .args .from) (start c .args .slots .now)))
 rest c =
     let a = start c .args in
-    ap (hits (a .base) (a .region .now) (a .name .now) (slot c)) (sym (slots-from (a .slots .now) (a .count) (slot c) (search needs)))
+    ap (hits (a .region .now) (a .base) (a .name .now) (slot c)) (sym (slots-from (a .slots .now) (a .count) (slot c) (search needs)))
     ∙ c .before .before .before .loop .inv
 
 returns : tie.Need-returns Inv-loop μ-loop
@@ -72,7 +72,7 @@ returns c =
     let a = start at-follow .args in
     sym
     (ap firstOf (sym (rest at-follow))
-    ∙ met (a .base) (a .region .now) (a .name .now) (slot at-follow) (address at-follow) _ _ (sym (follows at-follow) ∙ c .before .hit .given .1))
+    ∙ met (a .region .now) (a .base) (a .name .now) (slot at-follow) (address at-follow) _ _ (sym (follows at-follow) ∙ c .before .hit .given .1))
 
 add-slot : tie.Need-add-slot Inv-loop μ-loop
 add-slot c = search needs
@@ -84,15 +84,15 @@ loop-again : tie.Need-loop-again Inv-loop μ-loop
 loop-again c =
     let at-follow = c .before .before in
     let a = start at-follow .args in
-    sym (turn (a .base) (a .region .now) (a .name .now) (slot at-follow) (address at-follow) _ (sym (follows at-follow) ∙ c .enum-told .given .1))
+    sym (turn (a .region .now) (a .base) (a .name .now) (slot at-follow) (address at-follow) _ (sym (follows at-follow) ∙ c .enum-told .given .1))
     ∙ rest at-follow
 
 returns-2 : tie.Need-returns-2 Inv-loop μ-loop
 returns-2 c =
     let at-loop = c .before in
     let a = at-loop .before .before .before .before .args in
-    let none = ap (hits (a .base) (a .region .now) (a .name .now) (at-loop .loop .slot)) (slots-end (drop (8 * at-loop .loop .slot) (a .slots .now)) (a .count) (at-loop .loop .slot) (search needs)) in
-    sym (ap firstOf (sym (at-loop .loop .inv) ∙ none ∙ no-slots (a .base) (a .region .now) (a .name .now) (at-loop .loop .slot)))
+    let none = ap (hits (a .region .now) (a .base) (a .name .now) (at-loop .loop .slot)) (slots-end (drop (8 * at-loop .loop .slot) (a .slots .now)) (a .count) (at-loop .loop .slot) (search needs)) in
+    sym (ap firstOf (sym (at-loop .loop .inv) ∙ none ∙ no-slots (a .region .now) (a .base) (a .name .now) (at-loop .loop .slot)))
 
 pub next-hit-spec : {M : Type 1} → statement M
 next-hit-spec =

@@ -22,14 +22,14 @@ abbrev start : tie.After-struct-known → tie.Start
 start c = c .before .before .before .before .before .before .before .before
 
 one : (c : tie.After-struct-known)
-    → firstOf (from (start c .args .base) (start c .args .region .now) (start c .args .name .now) (start c .args .count) (start c .args .slots .now) 0)
+    → firstOf (from (start c .args .region .now) (start c .args .base) (start c .args .name .now) (start c .args .count) (start c .args .slots .now) 0)
     ≡ Some (c .before .before .first .given .0 .0)
 one c = sym (c .before .before .before .before .next-hit .ensures) ∙ c .before .before .first .given .1
 
 add-next-hit : tie.Need-add-next-hit
 add-next-hit c =
     let a = start c .args in
-    let below = below-count (a .base) (a .region .now) (a .name .now) (a .count) (a .slots .now) _ (one c) in
+    let below = below-count (a .region .now) (a .base) (a .name .now) (a .count) (a .slots .now) _ (one c) in
     search needs
 
 next-hit-requires-2 : tie.Need-next-hit-requires-2
@@ -44,19 +44,19 @@ enum-told-3 c = search needs
 returns : tie.Need-returns
 returns c =
     let a = c .before .before .before .before .before .before .args in
-    sym (none-met (a .base) (a .region .now) (a .name .now) (a .count) (a .slots .now) (sym (c .before .before .next-hit .ensures) ∙ c .enum-told .given .1))
+    sym (none-met (a .region .now) (a .base) (a .name .now) (a .count) (a .slots .now) (sym (c .before .before .next-hit .ensures) ∙ c .enum-told .given .1))
 
 returns-2 : tie.Need-returns-2
 returns-2 c =
     let at-first = c .before .before .before in
     let a = start at-first .args in
-    sym (one-met (a .base) (a .region .now) (a .name .now) (a .count) (a .slots .now) _ (one at-first) (sym (c .before .before .next-hit2 .ensures) ∙ c .enum-told2 .given .1))
+    sym (one-met (a .region .now) (a .base) (a .name .now) (a .count) (a .slots .now) _ (one at-first) (sym (c .before .before .next-hit2 .ensures) ∙ c .enum-told2 .given .1))
 
 returns-3 : tie.Need-returns-3
 returns-3 c =
     let at-first = c .before .before .before in
     let a = start at-first .args in
-    sym (two-met (a .base) (a .region .now) (a .name .now) (a .count) (a .slots .now) _ (one at-first) _ (sym (c .before .before .next-hit2 .ensures) ∙ c .enum-told3 .given .1))
+    sym (two-met (a .region .now) (a .base) (a .name .now) (a .count) (a .slots .now) _ (one at-first) _ (sym (c .before .before .next-hit2 .ensures) ∙ c .enum-told3 .given .1))
 
 pub walk-spec : {M : Type 1} → statement M
 walk-spec =

@@ -1,12 +1,12 @@
--- `ubios::runs_past` meets its contract: the last byte's place is compared with what there is behind the first.
+-- `region::runs_past` meets its contract: the last byte's place is compared with what there is behind the first.
 -- Assumes nothing.
 use Prim.Native.Nat.{_+_, _^_}
 use mathlib.Core.Path.{sym}
 use borrow.Author.Tests.{le-ltb}
-use Rattle.ubios.proofs.Answers.{past-last}
+use Rattle.region.proofs.Answers.{past-last}
 use borrow.Author.Needs.{needs}
-use Rattle.ubios.proofs.runs_past.Statement.{statement}
-use Rattle.ubios.proofs.runs_past.Tie as tie
+use Rattle.region.proofs.runs_past.Statement.{statement}
+use Rattle.region.proofs.runs_past.Tie as tie
 
 returns : tie.Need-returns
 returns c = let a = c .before .args in sym (le-ltb (2 ^ 64) (a .base + a .size) (search needs))
@@ -18,7 +18,7 @@ sub-result-2 : tie.Need-sub-result-2
 sub-result-2 c = search needs
 
 returns-2 : tie.Need-returns-2
-returns-2 c = let a = c .before .args in past-last (a .base) (a .size) (search needs) (search needs)
+returns-2 c = let a = c .before .args in past-last (a .size) (a .base) (search needs) (search needs)
 
 pub runs-past-spec : {M : Type 1} → statement M
 runs-past-spec = tie.close (tie.spec returns sub-result sub-result-2 returns-2)

@@ -1,0 +1,2 @@
+-- The laws of a region. Crates above cite them.
+pub mod Answers
