@@ -13,13 +13,13 @@ use Rattle.notice.specs.Ring.{badRing, waiting, moved, posted, takenOf}
 use Rattle.notice.specs.Queue.{run, end}
 use Rattle.ubios.specs.Layout.{upToZero}
 use Rattle.region.specs.Region.{outside}
-use Rattle.ubios.specs.Checks.{badSize, judged, checked, rootJudged, rootChecked}
+use Rattle.ubios.specs.Checks.{badSize, judged, checked, badCount, rootJudged, rootChecked}
 use Rattle.sfi.specs.Kinds.{among}
 use Rattle.sfi.specs.Checks.{badLength, badEntries, judged as sfiJudged, checked as sfiChecked}
 use Rattle.cases.specs.Cases.{isCount, isLength, holds, allHold, starred, StarredHold, LogHoldsFrames}
 
 pub starred-hold : StarredHold
-unfolding word bytes total totalOf sum headerBytes parsed countOf counted written consistent accept begin proceed received answers badRing waiting moved posted takenOf run end upToZero outside badSize judged checked rootJudged rootChecked among badLength badEntries sfiJudged sfiChecked same isCount isLength holds allHold starred
+unfolding word bytes total totalOf sum headerBytes parsed countOf counted written consistent accept begin proceed received answers badRing waiting moved posted takenOf run end upToZero outside badSize judged checked badCount rootJudged rootChecked among badLength badEntries sfiJudged sfiChecked same isCount isLength holds allHold starred
 starred-hold = refl
 
 pub log-holds-frames : LogHoldsFrames

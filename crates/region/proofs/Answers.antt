@@ -3,12 +3,12 @@
 use Prim.Native.Nat.{ℕ, _+_, _-_, _^_, _≤_, _<_}
 use mathlib.Core.Bool.{Bool, _||_}
 use mathlib.Core.Path.{_≡_, ap₂}
-use borrow.Author.Tests.{lt-ltb, le-ltb, ltb-false}
+use borrow.Author.Tests.{le-ltb, ltb-false}
 use native.Mathlib.Omega.{arith}
 use lib.Dec.{ltb}
 use Rattle.le.proofs.Tests.{neither, agree}
 use Rattle.region.specs.Region.{runsPast, isBefore, endsBehind, outside}
-use Rattle.region.specs.Statements.{Inside, NotOutside, IsInside}
+use Rattle.region.specs.Statements.{NotOutside, IsInside}
 
 -- a region that runs past 2^64 has its last byte behind the last address
 pub past-last : (size base : ℕ) → base < 2 ^ 64 → 0 < size → ltb (2 ^ 64 - 1 - base) (size - 1) ≡ runsPast size base

@@ -1,11 +1,12 @@
 -- A table that is laid out by the rules passes its checks, and is found by its name.
 -- Assumes nothing.
 use Prim.Native.Nat.{ℕ, suc, _+_, _*_, _-_, _^_, _≤_, _<_}
-use mathlib.Core.Bool.{false}
+use mathlib.Core.Bool.{false, not}
 use mathlib.Core.Path.{_≡_, refl, sym, ap, ap₂, _∙_}
 use mathlib.Core.List.{List, [], _∷_, _++_, append-nil, append-assoc}
-use borrow.Author.Tests.{ne-eqb}
+use borrow.Author.Tests.{le-ltb, eq-eqb, ne-eqb}
 use native.Mathlib.Omega.{arith}
+use lib.Dec.{eqb}
 use lib.ListN.{length, take, drop, length-append}
 use lib.Seq.{take-at, drop-at, drop-drop, drop-append-seam}
 use Rattle.le.specs.Word.{word, bytes}
@@ -14,16 +15,16 @@ use Rattle.le.proofs.Words.{word-bytes, word-one, length-bytes}
 use Rattle.le.proofs.Sums.{checksum}
 use Rattle.le.proofs.Comparing.{same-self, equal-same}
 use Rattle.region.proofs.Answers.{is-inside}
-use Rattle.ubios.specs.Layout.{tableHeader, rootHeader, countMax, nameMax, version, upToZero, nameOf, totalOf, versionOf, remainingOf, usedOf, summedPart, rootName, countOf, addresses, slotsOf}
-use Rattle.ubios.specs.Checks.{tableAt, badSize, judged, checked, rootJudged}
-use Rattle.ubios.specs.Lookup.{badName, leads, bodyOf}
+use Rattle.ubios.specs.Layout.{tableHeader, rootHeader, countMax, nameMax, version, upToZero, nameOf, totalOf, remainingOf, usedOf, summedPart, rootName, countOf, addresses, slotsOf}
+use Rattle.ubios.specs.Checks.{tableAt, badSize, wrongVersion, judged, checked, rootJudged}
+use Rattle.ubios.specs.Lookup.{noName, leadsOn, leads, bodyOf}
 use Rattle.ubios.specs.Statements.{headOf, tableOf, Laid, LaidPasses, EndsName, LaidName, slotBytes, Addresses, rootBody, RootLaid, LaidRoot, TableIn, LaidLeads, LaidFound}
 use Rattle.ubios.specs.declared.Table.{Table}
 use Rattle.ubios.specs.declared.Checked.the-variants.{Passed}
 use Rattle.ubios.specs.declared.lookup.Found.the-variants.{Only}
-use Rattle.ubios.proofs.Answers.{passes-only, good-size, judged-passed, held, root-judged, root-passed, good-count}
+use Rattle.ubios.proofs.Answers.{passes-only, good-size, judged-tested, checked-tested, count-tested, root-tested, root-after}
 use Rattle.ubios.proofs.Theorems.{only-found}
-use Rattle.ubios.proofs.Names.{ends, joined, whole as whole-name, root-name-good}
+use Rattle.ubios.proofs.Names.{ends, joined, sought, whole as whole-name, root-name-good}
 
 -- the words of a table with these, whatever stands behind its head
 module _ (field : List ℕ) (total : ℕ) (reserved : List ℕ) (remaining : ℕ) (rest : List ℕ) (named : length field ≡ nameMax) (three : length reserved ≡ 3) where
@@ -49,8 +50,8 @@ module _ (field : List ℕ) (total : ℕ) (reserved : List ℕ) (remaining : ℕ
   total-is : total < 2 ^ 32 → totalOf t ≡ total
   total-is h = ap (word 4) behind-name ∙ word-bytes 4 total ((version ∷ reserved) ++ (bytes 4 remaining ++ rest)) h
 
-  version-is : versionOf t ≡ version
-  version-is = ap (word 1) behind-total ∙ word-one ((version ∷ reserved) ++ (bytes 4 remaining ++ rest))
+  version-is : wrongVersion t ≡ false
+  version-is = ap (λ (s : List ℕ). not (eqb (word 1 s) version)) behind-total ∙ ap (λ (n : ℕ). not (eqb n version)) (word-one ((version ∷ reserved) ++ (bytes 4 remaining ++ rest)))
 
   remaining-is : remaining < 2 ^ 32 → remainingOf t ≡ remaining
   remaining-is h = ap (word 4) behind-version ∙ word-bytes 4 remaining rest h
@@ -103,11 +104,11 @@ module _ (header base : ℕ) (front field reserved : List ℕ) (remaining : ℕ)
   good : badSize header (length table) (totalOf table) (remainingOf table) ≡ false
   good =
       let left = laid .left in
-      rw (whole, total-read, remaining-read) (good-size header _ total remaining (omega arith) (laid .most) (omega arith) (omega arith))
+      rw (whole, total-read, remaining-read) (good-size header _ total remaining (record { holds = omega arith; most = laid .most; inside = omega arith; left = omega arith }))
 
   judged-here : judged header (length front) table ≡ Passed (record { at = length front; used = tableHeader + length body })
   judged-here =
-      judged-passed header (length front) table good (ap (λ (s : List ℕ). versionOf s) here ∙ version-is field total reserved remaining tail (laid .named) (laid .three)) sums
+      judged-tested header (length front) table good (ap (λ (s : List ℕ). wrongVersion s) here ∙ version-is field total reserved remaining tail (laid .named) (laid .three)) (ap (λ (n : ℕ). not (eqb n 0)) sums)
       ∙ ap (λ (n : ℕ). Passed (record { at = length front; used = n })) used-is
 
   region-length : length (front ++ table) ≡ length front + (tableHeader + length body + length rest)
@@ -127,7 +128,7 @@ laid-passes header base front field reserved remaining body rest long laid =
     let size = region-length header base front field reserved remaining body rest long laid in
     let place : address - base ≡ length front = omega arith in
     let inside = is-inside header (length region) base address (record { top = laid .top; start = omega arith; end = omega arith }) in
-    held header region base address (laid .aligned) inside
+    checked-tested header region base address (ap not (eq-eqb _ _ (laid .aligned))) inside
     ∙ ap₂ (λ (n : ℕ) (s : List ℕ). judged header n s) place (at-address base front table)
     ∙ judged-here header base front field reserved remaining body rest long laid
 
@@ -137,7 +138,7 @@ unfolding upToZero
 nothing-more [] e = refl
 nothing-more (b ∷ junk) e = ends b junk e
 
-name-in : (name end behind : List ℕ) → badName name ≡ false → EndsName end → length (name ++ end) ≡ nameMax → nameOf ((name ++ end) ++ behind) ≡ name
+name-in : (name end behind : List ℕ) → noName name ≡ false → EndsName end → length (name ++ end) ≡ nameMax → nameOf ((name ++ end) ++ behind) ≡ name
 name-in name end behind good ended long =
     ap upToZero (take-at (name ++ end) behind nameMax long)
     ∙ joined name end (whole-name name good)
@@ -146,10 +147,10 @@ name-in name end behind good ended long =
 
 pub laid-name : LaidName
 laid-name base front name end behind good ended long =
-    ap (λ (t : List ℕ). nameOf t) (at-address base front ((name ++ end) ++ behind)) ∙ name-in name end behind good ended long
+    ap (λ (t : List ℕ). nameOf t) (at-address base front ((name ++ end) ++ behind)) ∙ name-in name end behind (sought name good) ended long
 
 -- the name of a table as it is laid out
-name-of : (name end reserved : List ℕ) (remaining : ℕ) (body rest : List ℕ) → badName name ≡ false → EndsName end → length (name ++ end) ≡ nameMax
+name-of : (name end reserved : List ℕ) (remaining : ℕ) (body rest : List ℕ) → noName name ≡ false → EndsName end → length (name ++ end) ≡ nameMax
     → nameOf (tableOf (name ++ end) reserved remaining body ++ rest) ≡ name
 name-of name end reserved remaining body rest good ended long =
     let first = headOf (name ++ end) (tableHeader + length body + remaining) reserved remaining in
@@ -235,9 +236,9 @@ module _ (base : ℕ) (front junk reserved : List ℕ) (remaining : ℕ) (six sl
       let long = body-length in
       record {
         passes =
-            root-judged (front ++ root) base (base + length front) table (laid-passes rootHeader base front field reserved remaining body rest root-fits laid)
+            root-after (front ++ root) base (base + length front) (laid-passes rootHeader base front field reserved remaining body rest root-fits laid)
             ∙ ap (rootJudged table) (at-address base front root)
-            ∙ root-passed table root (equal-same (nameOf root) rootName named-root) (length slots) count-read (good-count (tableHeader + length body) (length slots) few (omega arith));
+            ∙ root-tested table root count-read (ap not (equal-same (nameOf root) rootName named-root)) (count-tested (table .used) (length slots) (le-ltb _ _ few) (le-ltb (table .used) (rootHeader + 8 * length slots) (omega arith)));
         slots-are = ap (λ (t : List ℕ). slotsOf t) (at-address base front root) ∙ slots-read;
       }
 
@@ -256,10 +257,10 @@ module _ (region : List ℕ) (base address : ℕ) (own body : List ℕ) (t : Tab
   in-name =
       let table = tableOf (own ++ t .end) (t .reserved) (t .remaining) body ++ t .rest in
       rw (t .here, t .memory)
-      (ap (λ (s : List ℕ). nameOf s) (at-address base (t .front) table) ∙ name-of own (t .end) (t .reserved) (t .remaining) body (t .rest) (t .good) (t .ended) (t .laid .named))
+      (ap (λ (s : List ℕ). nameOf s) (at-address base (t .front) table) ∙ name-of own (t .end) (t .reserved) (t .remaining) body (t .rest) (sought own (t .good)) (t .ended) (t .laid .named))
 
 pub laid-leads : LaidLeads
-unfolding leads
+unfolding leads leadsOn
 laid-leads region base address own body name t ne =
     rw (ne-eqb address 0 ne, in-passes region base address own body t, in-name region base address own body t)
 

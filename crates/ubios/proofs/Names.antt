@@ -1,21 +1,21 @@
 -- The laws of names: what stands before the first zero.
 -- Assumes nothing.
 use Prim.Native.Nat.{ℕ, suc, _+_, _≤_, _<_}
-use mathlib.Core.Bool.{Bool, true, false, cond}
-use mathlib.Core.Path.{_≡_, refl, ap, sym, _∙_}
+use mathlib.Core.Bool.{Bool, true, false, cond, _||_}
+use mathlib.Core.Path.{_≡_, refl, ap, ap₂, sym, _∙_}
 use mathlib.Core.List.{List, [], _∷_, _++_, append-nil}
-use borrow.Author.Tests.{lt-ltb, le-ltb, eq-eqb, ne-eqb, ltb-false, eqb-true, eqb-false}
+use borrow.Author.Tests.{eq-eqb, ne-eqb, ltb-false, eqb-true, eqb-false}
 use native.Mathlib.Nat.{add-zero}
 use native.Mathlib.Numerals.{add-one}
 use native.Mathlib.Omega.{arith}
-use lib.Dec.{ltb, eqb}
+use lib.Dec.{eqb}
 use lib.ListN.{length, take, drop, getD, drop-of-length-le, length-append, take-append-drop}
 use lib.Seq.{drop-cons, take-all, take-take, getD-take, getD-drop}
 use Rattle.le.specs.Compare.{same}
 use Rattle.le.proofs.Tests.{apart, never, neither}
 use Rattle.le.proofs.Comparing.{same-true, equal-same, other-list, other-length}
 use Rattle.ubios.specs.Layout.{nameMax, upToZero, nameOf, rootName}
-use Rattle.ubios.specs.Lookup.{badName}
+use Rattle.ubios.specs.Lookup.{isEmpty, isLong, hasZero, noName, badName}
 
 pub ends : (b : ℕ) (s : List ℕ) → b ≡ 0 → upToZero (b ∷ s) ≡ []
 unfolding upToZero
@@ -60,35 +60,23 @@ start (b ∷ s) = go (eqb b 0) (start s)
     go true e = refl
     go false e = ap (λ (l : List ℕ). b ∷ l) e
 
--- which names are bad
-module _ (name : List ℕ) where
-  pub empty-name : length name ≡ 0 → badName name ≡ true
-  unfolding badName
-  empty-name e = rw (eq-eqb (length name) 0 e)
+-- 39 by its tests
+pub name-tested : (name : List ℕ) {a b c : Bool} → isEmpty name ≡ a → isLong name ≡ b → hasZero name ≡ c → badName name ≡ a || (b || c)
+unfolding badName noName
+name-tested name p q r = ap₂ _||_ p (ap₂ _||_ q r)
 
-  pub long-name : (length name ≡ 0 → ⊥) → nameMax < length name → badName name ≡ true
-  unfolding badName
-  long-name ne h = rw (ne-eqb (length name) 0 ne, lt-ltb nameMax (length name) h)
-
-  pub by-zero : (length name ≡ 0 → ⊥) → length name ≤ nameMax → badName name ≡ ltb (length (upToZero name)) (length name)
-  unfolding badName
-  by-zero ne h = rw (ne-eqb (length name) 0 ne, le-ltb nameMax (length name) h)
-
--- a name that can be sought has no zero, and fits the field
-pub whole : (name : List ℕ) → badName name ≡ false → upToZero name ≡ name
+-- a name that can be sought is one that a table can have: it fits the field, and has no zero
+pub sought : (name : List ℕ) → badName name ≡ false → noName name ≡ false
 unfolding badName
-whole name e =
-    let p = neither (eqb (length name) 0) _ e in
-    let q = neither (ltb nameMax (length name)) _ (p .1) in
-    let long = ltb-false (length (upToZero name)) (length name) (q .1) in
-    sym (start name) ∙ take-all (length (upToZero name)) name long
+sought name e = neither (isEmpty name) _ e .1
 
-fits : (name : List ℕ) → badName name ≡ false → length name ≤ nameMax
-unfolding badName
-fits name e =
-    let p = neither (eqb (length name) 0) _ e in
-    let q = neither (ltb nameMax (length name)) _ (p .1) in
-    ltb-false nameMax (length name) (q .0)
+fits : (name : List ℕ) → noName name ≡ false → length name ≤ nameMax
+unfolding noName
+fits name e = ltb-false _ _ (neither (isLong name) _ e .0)
+
+pub whole : (name : List ℕ) → noName name ≡ false → upToZero name ≡ name
+unfolding noName
+whole name e = sym (start name) ∙ take-all (length (upToZero name)) name (ltb-false _ _ (neither (isLong name) _ e .1))
 
 -- what stands before the first zero of two joined lists, of which the first has none
 pub joined : (s t : List ℕ) → upToZero s ≡ s → upToZero (s ++ t) ≡ s ++ upToZero t
@@ -116,7 +104,7 @@ by-rest name (b ∷ rest) = go (eqb b 0) refl
         other-length (name ++ upToZero (b ∷ rest)) name (λ e. absurd (omega arith)) ∙ sym q
 
 -- which tables have that name
-module _ (t name : List ℕ) (good : badName name ≡ false) where
+module _ (t name : List ℕ) (good : noName name ≡ false) where
   field-start : take (length name) (take nameMax t) ≡ take (length name) t
   field-start = take-take (length name) nameMax t (fits name good)
 
@@ -149,7 +137,7 @@ module _ (t name : List ℕ) (good : badName name ≡ false) where
         ∙ by-rest name rest
         ∙ ap (λ (b : ℕ). eqb b 0) next
 
--- the root's name can be sought
-pub root-name-good : badName rootName ≡ false
-unfolding badName upToZero
+-- the root's name is one that a table can have
+pub root-name-good : noName rootName ≡ false
+unfolding noName upToZero
 root-name-good = refl

@@ -7,7 +7,7 @@ mod name;
 use name::is_named;
 ghost use mathlib.Core.Path.{_≡_};
 ghost use Rattle.ubios.specs.Layout.{tableHeader};
-ghost use Rattle.ubios.specs.Checks.{numberOf, badSize, judged, checked, rootJudged, rootChecked};
+ghost use Rattle.ubios.specs.Checks.{numberOf, badSize, judged, checked, badCount, rootJudged, rootChecked};
 
 // A table that passes its checks: where it stands in the region, and the length of its used part.
 pub struct Table {
@@ -148,6 +148,16 @@ impl Root {
     // The size of each.
     pub const SLOT_SIZE: usize = 8;
 
+    // Whether Count is not legal in a root with that used part.
+    fn is_bad_count(used: usize, count: usize) -> bool
+        ensures { λ r. ⌜ r ≡ badCount used count ⌝ }
+    {
+        if Self::COUNT_MAX < count {
+            return true;
+        }
+        used < Self::HEADER + Self::SLOT_SIZE * count
+    }
+
     // 35 and 36, of a root that passes the checks of a table.
     fn judge(table: Table, root: &[u8]) -> RootChecked
         ensures { λ r. ⌜ r ≡ rootJudged table (now (root .entry)) ⌝ }
@@ -156,10 +166,7 @@ impl Root {
             return RootChecked::Refused(Reason::NotRoot);
         }
         let count = le::word::u16_at(root, 32) as usize;
-        if Self::COUNT_MAX < count {
-            return RootChecked::Refused(Reason::BadCount);
-        }
-        if table.used < Self::HEADER + Self::SLOT_SIZE * count {
+        if Self::is_bad_count(table.used, count) {
             return RootChecked::Refused(Reason::BadCount);
         }
         RootChecked::Passed(Root { table, count })

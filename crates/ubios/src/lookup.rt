@@ -11,7 +11,7 @@ ghost use mathlib.Core.Bool.{false};
 ghost use Prim.Native.Nat.{_-_, _*_, _≤_};
 ghost use lib.ListN.{drop};
 ghost use Rattle.ubios.specs.Layout.{countMax, addresses};
-ghost use Rattle.ubios.specs.Lookup.{badName, hits, lookedUp, found};
+ghost use Rattle.ubios.specs.Lookup.{noName, hits, lookedUp, found};
 ghost use Rattle.ubios.specs.Helpers.{hitOf, firstOf};
 
 // The slot, counted from 0 with the gaps, and the body's place and length in the region: the table's used part
@@ -36,7 +36,7 @@ enum Hit {
 // What a slot with that address leads to, if that is a passing table of the name. The name is compared first,
 // since it is the cheaper test.
 fn follow(region: &[u8], base: u64, name: &[u8], slot: usize, address: u64) -> Hit
-    requires { ⌜ badName (now name) ≡ false ⌝ }
+    requires { ⌜ noName (now name) ≡ false ⌝ }
     ensures { λ r. ⌜ r ≡ hitOf (now (region .entry)) base (now (name .entry)) slot address ⌝ }
 {
     if address == 0 {
@@ -61,7 +61,7 @@ fn follow(region: &[u8], base: u64, name: &[u8], slot: usize, address: u64) -> H
 
 // The first hit among the slots from one on.
 fn next_hit(region: &[u8], base: u64, name: &[u8], slots: &[u8], count: usize, from: usize) -> Hit
-    requires { ⌜ (count ≤ countMax) × (badName (now name) ≡ false) ⌝ }
+    requires { ⌜ (count ≤ countMax) × (noName (now name) ≡ false) ⌝ }
     ensures { λ r. ⌜ r ≡ firstOf (hits (now (region .entry)) base (now (name .entry)) from (addresses (count - from) (drop (8 * from) (now (slots .entry))))) ⌝ }
 {
     let mut slot = from;
@@ -79,7 +79,7 @@ fn next_hit(region: &[u8], base: u64, name: &[u8], slots: &[u8], count: usize, f
 
 // Every slot is walked, until two hits are met: a gap ends nothing.
 fn walk(region: &[u8], base: u64, name: &[u8], slots: &[u8], count: usize) -> Found
-    requires { ⌜ (count ≤ countMax) × (badName (now name) ≡ false) ⌝ }
+    requires { ⌜ (count ≤ countMax) × (noName (now name) ≡ false) ⌝ }
     ensures { λ r. ⌜ r ≡ lookedUp (now (region .entry)) base (now (name .entry)) (addresses count (now (slots .entry))) ⌝ }
 {
     match next_hit(region, base, name, slots, count, 0) {

@@ -4,7 +4,7 @@ ghost use mathlib.Core.Bool.{false};
 ghost use lib.ListN.{length};
 ghost use Rattle.le.specs.Compare.{same};
 ghost use Rattle.ubios.specs.Layout.{upToZero, nameOf};
-ghost use Rattle.ubios.specs.Lookup.{badName};
+ghost use Rattle.ubios.specs.Lookup.{noName, badName};
 
 // The longest name.
 pub(crate) const NAME_MAX: usize = 16;
@@ -38,7 +38,7 @@ pub(crate) fn is_bad_name(name: &[u8]) -> bool
 
 // Whether a table has that name: it starts with it, and then comes a zero, unless the name fills its field.
 pub(crate) fn is_named(table: &[u8], name: &[u8]) -> bool
-    requires { ⌜ badName (now name) ≡ false ⌝ }
+    requires { ⌜ noName (now name) ≡ false ⌝ }
     ensures { λ r. ⌜ r ≡ same (nameOf (now (table .entry))) (now (name .entry)) ⌝ }
 {
     let n = name.len();

@@ -1,16 +1,17 @@
 -- `ubios::judge` meets its contract: at each `return` the tests that led there say which answer it is.
 -- Assumes nothing.
 use Prim.Native.Nat.{ℕ, _-_}
-use mathlib.Core.Bool.{false}
-use mathlib.Core.Path.{_≡_, sym, ap, ap₂, _∙_}
+use mathlib.Core.Bool.{false, not}
+use mathlib.Core.Path.{_≡_, refl, sym, ap, ap₂, _∙_}
 use mathlib.Core.List.{List}
+use borrow.Author.Tests.{eq-eqb, ne-eqb}
 use native.Mathlib.Omega.{arith}
-use lib.ListN.{length}
+use lib.ListN.{length, take}
 use Rattle.le.specs.Sum.{sum}
-use Rattle.ubios.specs.Layout.{version, totalOf, versionOf, remainingOf, usedOf, summedPart}
-use Rattle.ubios.specs.Checks.{badSize}
+use Rattle.ubios.specs.Layout.{totalOf, remainingOf, usedOf, summedPart}
+use Rattle.ubios.specs.Checks.{badSize, wrongVersion}
 use Rattle.ubios.specs.declared.Checked.the-variants.{Passed}
-use Rattle.ubios.proofs.Answers.{sized, judged-size, judged-version, judged-sum, judged-passed}
+use Rattle.ubios.proofs.Answers.{sized, judged-tested}
 use borrow.Author.Needs.{needs}
 use Rattle.ubios.proofs.judge.Statement.{statement}
 use Rattle.ubios.proofs.judge.Tie as tie
@@ -45,32 +46,27 @@ tested c =
 used : (c : tie.After-is-bad-size) → c .before .before .u32-at .result - c .before .u32-at2 .result ≡ usedOf (table c)
 used c = ap₂ _-_ (c .before .before .u32-at .ensures) (c .before .u32-at2 .ensures)
 
--- the sizes are good
+-- the sizes are good, and the version
 good : (c : tie.Else1) → badSize (start (c .before) .args .header) (length (table (c .before))) (totalOf (table (c .before))) (remainingOf (table (c .before))) ≡ false
 good c = sym (tested (c .before)) ∙ c .if1 .left
 
--- and the version
-one : (c : tie.Else2) → versionOf (table (c .before .before .before)) ≡ version
-one c = sym (c .before .u8-at .ensures) ∙ c .if2 .left
+one : (c : tie.Else2) → wrongVersion (table (c .before .before .before)) ≡ false
+one c = ap not (eq-eqb _ _ (sym (c .before .u8-at .ensures) ∙ c .if2 .left))
 
 -- the sum as it was taken
 summed : (c : tie.After-sum32) → c .sum32 .result ≡ sum 4 (summedPart (table (c .before .before .before .before .before)))
 summed c =
     let at-size = c .before .before .before .before .before in
-    let total-read = at-size .before .before .u32-at .ensures in
-    let remaining-read = at-size .before .u32-at2 .ensures in
-    let part : c .before .head .result .now ≡ summedPart (table at-size) = c .before .head .ensures ∙ cc in
-    c .sum32 .ensures ∙ ap (sum 4) part
+    c .sum32 .ensures ∙ ap (sum 4) (c .before .head .ensures ∙ ap (λ (n : ℕ). take n (table at-size)) (used at-size))
 
 returns : tie.Need-returns
-returns c = sym (judged-size _ _ _ (sym (tested (c .before)) ∙ c .if1 .taken))
+returns c = sym (judged-tested _ _ _ (sym (tested (c .before)) ∙ c .if1 .taken) refl refl)
 
 u8-at-requires : tie.Need-u8-at-requires
 u8-at-requires c κs = search needs
 
 returns-2 : tie.Need-returns-2
-returns-2 c =
-    sym (judged-version _ _ _ (good (c .before .before)) (λ e. c .if2 .taken (c .before .u8-at .ensures ∙ e)))
+returns-2 c = sym (judged-tested _ _ _ (good (c .before .before)) (ap not (ne-eqb _ _ (λ e. c .if2 .taken (c .before .u8-at .ensures ∙ e)))) refl)
 
 sub-used : tie.Need-sub-used
 sub-used c =
@@ -86,15 +82,15 @@ sum32-requires c κs = search needs
 
 returns-3 : tie.Need-returns-3
 returns-3 c =
-    let version-read = c .before .before .before in
-    sym (judged-sum _ _ _ (good (version-read .before .before)) (one version-read) (λ e. c .if3 .taken (summed (c .before) ∙ e)))
+    let at-version = c .before .before .before in
+    sym (judged-tested _ _ _ (good (at-version .before .before)) (one at-version) (ap not (ne-eqb _ _ (λ e. c .if3 .taken (summed (c .before) ∙ e)))))
 
 returns-4 : tie.Need-returns-4
 returns-4 c =
-    let version-read = c .before .before .before in
-    let at-size = version-read .before .before .before in
+    let at-version = c .before .before .before in
+    let at-size = at-version .before .before .before in
     ap (λ (n : ℕ). Passed (record { at = start at-size .args .at; used = n })) (used at-size)
-    ∙ sym (judged-passed _ _ _ (good (version-read .before .before)) (one version-read) (sym (summed (c .before)) ∙ c .if3 .left))
+    ∙ sym (judged-tested _ _ _ (good (at-version .before .before)) (one at-version) (ap not (eq-eqb _ _ (sym (summed (c .before)) ∙ c .if3 .left))))
 
 pub judge-spec : {M : Type 1} → statement M
 judge-spec =

@@ -5,7 +5,7 @@ use lib.ListN.{drop}
 use Rattle.ubios.specs.Layout.{rootHeader}
 use Rattle.ubios.specs.Checks.{rootJudged}
 use Rattle.ubios.specs.declared.Table.{Table}
-use Rattle.ubios.proofs.Answers.{passes-only, root-refused, root-judged}
+use Rattle.ubios.proofs.Answers.{passes-only, root-after}
 use borrow.Author.Needs.{needs}
 use Rattle.ubios.proofs.Root.check.Statement.{statement}
 use Rattle.ubios.proofs.Root.check.Tie as tie
@@ -26,9 +26,7 @@ judge-requires : tie.Need-judge-requires
 judge-requires c κs = search needs
 
 returns : tie.Need-returns
-returns c =
-    let a = c .before .before .before .before .before .args in
-    sym (root-refused (a .region .now) (a .base) (a .address) _ (sym (c .before .before .before .check .ensures) ∙ c .before .reason .given .1))
+returns c = sym (root-after _ _ _ (sym (c .before .before .before .check .ensures) ∙ c .before .reason .given .1))
 
 returns-2 : tie.Need-returns-2
 returns-2 c =
@@ -37,7 +35,7 @@ returns-2 c =
     let passed = sym (at-match .before .before .check .ensures) ∙ at-match .table .given .1 in
     c .judge .ensures
     ∙ ap (rootJudged _) (c .before .tail .ensures ∙ ap (λ (t : Table). drop (t .at) (a .region .now)) (passes-only rootHeader (a .region .now) (a .base) (a .address) _ passed .is))
-    ∙ sym (root-judged (a .region .now) (a .base) (a .address) _ passed)
+    ∙ sym (root-after _ _ _ passed)
 
 pub check-spec : {M : Type 1} → statement M
 check-spec =

@@ -1,11 +1,9 @@
 -- `ubios::Root::judge` meets its contract: at each `return` the tests that led there say which answer it is.
 -- Assumes nothing.
-use mathlib.Core.Bool.{true}
-use mathlib.Core.Path.{_≡_, sym, _∙_}
-use borrow.Author.Tests.{not-true, not-false}
-use Rattle.le.specs.Compare.{same}
-use Rattle.ubios.specs.Layout.{nameOf, rootName}
-use Rattle.ubios.proofs.Answers.{root-name, root-count, root-passed, many-slots, beyond-used, good-count}
+use mathlib.Core.Bool.{false, not}
+use mathlib.Core.Path.{_≡_, refl, sym, ap, _∙_}
+use Rattle.ubios.specs.Checks.{notRoot}
+use Rattle.ubios.proofs.Answers.{root-tested}
 use Rattle.ubios.proofs.Names.{root-name-good}
 use borrow.Author.Needs.{needs}
 use Rattle.ubios.proofs.Root.judge.Statement.{statement}
@@ -17,15 +15,12 @@ slice-aggregate-is-named c = search needs
 is-named-requires : tie.Need-is-named-requires
 is-named-requires c κs = root-name-good
 
--- the test of the name
-abbrev start : tie.After-is-named → tie.Start
-start c = c .before .before .before
-
-named : (c : tie.Else1) → same (nameOf (start (c .before) .args .root .now)) rootName ≡ true
-named c = sym (c .before .is-named .ensures) ∙ not-false _ (c .if1 .left)
+-- past the test of the name
+named : (c : tie.Else1) → notRoot (c .before .before .before .before .args .root .now) ≡ false
+named c = sym (ap not (c .before .is-named .ensures)) ∙ c .if1 .left
 
 returns : tie.Need-returns
-returns c = sym (root-name _ _ (sym (c .before .is-named .ensures) ∙ not-true _ (c .if1 .taken)))
+returns c = sym (root-tested _ _ refl (sym (ap not (c .before .is-named .ensures)) ∙ c .if1 .taken) refl)
 
 u16-at-requires : tie.Need-u16-at-requires
 u16-at-requires c κs = search needs
@@ -33,26 +28,18 @@ u16-at-requires c κs = search needs
 cast-count : tie.Need-cast-count
 cast-count c = search needs
 
+is-bad-count-requires : tie.Need-is-bad-count-requires
+is-bad-count-requires c κs = search needs
+
 returns-2 : tie.Need-returns-2
 returns-2 c =
-    let at-count = c .before in
-    sym (root-count _ _ (named (at-count .before)) _ (at-count .u16-at .ensures) (many-slots _ _ (c .if2 .taken)))
-
-mul-if3 : tie.Need-mul-if3
-mul-if3 c = search needs
-
-add-if3 : tie.Need-add-if3
-add-if3 c = search needs
+    let at-count = c .before .before in
+    sym (root-tested _ _ (at-count .u16-at .ensures) (named (at-count .before)) (sym (c .before .is-bad-count .ensures) ∙ c .if2 .taken))
 
 returns-3 : tie.Need-returns-3
 returns-3 c =
-    let at-count = c .before .before .before in
-    sym (root-count _ _ (named (at-count .before)) _ (at-count .u16-at .ensures) (beyond-used _ _ (c .before .before .if2 .left) (c .if3 .taken)))
-
-returns-4 : tie.Need-returns-4
-returns-4 c =
-    let at-count = c .before .before .before in
-    sym (root-passed _ _ (named (at-count .before)) _ (at-count .u16-at .ensures) (good-count _ _ (c .before .before .if2 .left) (c .if3 .left)))
+    let at-count = c .before .before in
+    sym (root-tested _ _ (at-count .u16-at .ensures) (named (at-count .before)) (sym (c .before .is-bad-count .ensures) ∙ c .if2 .left))
 
 pub judge-spec : {M : Type 1} → statement M
 judge-spec =
@@ -63,8 +50,6 @@ judge-spec =
     returns
     u16-at-requires
     cast-count
+    is-bad-count-requires
     returns-2
-    mul-if3
-    add-if3
-    returns-3
-    returns-4)
+    returns-3)

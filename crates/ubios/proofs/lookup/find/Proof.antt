@@ -12,6 +12,7 @@ use Rattle.ubios.specs.declared.Table.{Table}
 use Rattle.ubios.specs.declared.RootChecked.the-variants.{Passed}
 use Rattle.ubios.specs.Statements.{Rooted}
 use Rattle.ubios.proofs.Answers.{root-passes-only}
+use Rattle.ubios.proofs.Names.{sought}
 use Rattle.ubios.proofs.Walking.{bad-name, no-root, in-root}
 use borrow.Author.Needs.{needs}
 use Rattle.ubios.proofs.lookup.find.Statement.{statement}
@@ -21,9 +22,7 @@ is-bad-name-requires : tie.Need-is-bad-name-requires
 is-bad-name-requires c κs = search needs
 
 returns : tie.Need-returns
-returns c =
-    let a = c .before .before .before .before .args in
-    sym (bad-name (a .region .now) (a .base) (a .root) (a .name .now) (sym (c .before .is-bad-name .ensures) ∙ c .if1 .taken))
+returns c = sym (bad-name _ _ _ _ (sym (c .before .is-bad-name .ensures) ∙ c .if1 .taken))
 
 good : (c : tie.Else1) → badName (c .before .before .before .before .args .name .now) ≡ false
 good c = sym (c .before .is-bad-name .ensures) ∙ c .if1 .left
@@ -53,16 +52,13 @@ passed c = sym (c .before .before .before .before .before .before .check .ensure
 
 known : (c : tie.After-tail2)
     → Rooted (start c .args .region .now) (start c .args .base) (start c .args .root) (c .before .before .before .before .r .given .0 .0)
-known c = let a = start c .args in root-passes-only (a .region .now) (a .base) (a .root) _ (passed c)
+known c = root-passes-only _ _ _ _ (passed c)
 
 walk-requires : tie.Need-walk-requires
-walk-requires c κs = (known c .few, good (c .before .before .before .before .before .before .before))
+walk-requires c κs = (known c .few, sought _ (good (c .before .before .before .before .before .before .before)))
 
 returns-2 : tie.Need-returns-2
-returns-2 c =
-    let a = c .before .before .before .before .before .before .before .before .args in
-    let refused = sym (c .before .before .before .check .ensures) ∙ c .before .reason .given .1 in
-    sym (no-root (a .region .now) (a .base) (a .root) (a .name .now) (good (c .before .before .before .before)) _ refused)
+returns-2 c = sym (no-root _ _ _ _ (good (c .before .before .before .before)) _ (sym (c .before .before .before .check .ensures) ∙ c .before .reason .given .1))
 
 returns-3 : tie.Need-returns-3
 returns-3 c =
@@ -72,7 +68,7 @@ returns-3 c =
     let slots = at-root .tail2 .ensures ∙ ap (drop rootHeader) (at-root .before .tail .ensures ∙ table-at) in
     c .walk .ensures
     ∙ ap₂ (λ (n : ℕ) (s : List ℕ). lookedUp (a .region .now) (a .base) (a .name .now) (addresses n s)) (known at-root .count) slots
-    ∙ sym (in-root (a .region .now) (a .base) (a .root) (a .name .now) (good (at-root .before .before .before .before .before .before .before)) _ (passed at-root))
+    ∙ sym (in-root _ _ _ _ (good (at-root .before .before .before .before .before .before .before)) _ (passed at-root))
 
 pub find-spec : {M : Type 1} → statement M
 find-spec =

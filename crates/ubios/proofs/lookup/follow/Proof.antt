@@ -23,14 +23,10 @@ tested : (c : tie.After-is-named)
 tested c = c .is-named .ensures ∙ ap (λ (t : List ℕ). same (nameOf t) (start c .args .name .now)) (c .before .tail .ensures)
 
 returns : tie.Need-returns
-returns c =
-    let a = c .before .before .before .args in
-    sym (no-hit (a .region .now) (a .base) (a .name .now) (a .address) (a .slot) (at-gap (a .region .now) (a .base) (a .name .now) (a .address) (eq-eqb _ _ (c .if1 .taken))))
+returns c = sym (no-hit _ _ _ _ _ (at-gap _ _ _ _ (eq-eqb _ _ (c .if1 .taken))))
 
 returns-2 : tie.Need-returns-2
-returns-2 c =
-    let a = c .before .before .before .before .args in
-    sym (no-hit (a .region .now) (a .base) (a .name .now) (a .address) (a .slot) (below-region (a .region .now) (a .base) (a .name .now) (a .address) (c .if2 .taken)))
+returns-2 c = sym (no-hit _ _ _ _ _ (below-region _ _ _ _ (c .if2 .taken)))
 
 tail-requires : tie.Need-tail-requires
 tail-requires c κs = search needs
@@ -39,10 +35,7 @@ is-named-requires : tie.Need-is-named-requires
 is-named-requires c κs = search needs
 
 returns-3 : tie.Need-returns-3
-returns-3 c =
-    let a = start (c .before) .args in
-    let other = sym (tested (c .before)) ∙ not-true _ (c .if3 .taken) in
-    sym (no-hit (a .region .now) (a .base) (a .name .now) (a .address) (a .slot) (other-name (a .region .now) (a .base) (a .name .now) (a .address) other))
+returns-3 c = sym (no-hit _ _ _ _ _ (other-name _ _ _ _ (sym (tested (c .before)) ∙ not-true _ (c .if3 .taken))))
 
 check-requires : tie.Need-check-requires
 check-requires c κs = search needs
@@ -68,17 +61,12 @@ sub-t15 : tie.Need-sub-t15
 sub-t15 c = let held = header-used tableHeader _ _ _ _ (passed (c .before)) in search needs
 
 returns-4 : tie.Need-returns-4
-returns-4 c =
-    let at-check = c .before .before in
-    let a = start (at-check .before .before) .args in
-    let failed = sym (at-check .check .ensures) ∙ c .enum-told .given .1 in
-    sym (no-hit (a .region .now) (a .base) (a .name .now) (a .address) (a .slot) (fails (a .region .now) (a .base) (a .name .now) (a .address) _ failed))
+returns-4 c = sym (no-hit _ _ _ _ _ (fails _ _ _ _ _ (sym (c .before .before .check .ensures) ∙ c .enum-told .given .1)))
 
 returns-5 : tie.Need-returns-5
 returns-5 c =
-    let a = entry (c .before) .args in
     let at-name = c .before .before .before .before .before .before in
-    sym (hit (a .region .now) (a .base) (a .name .now) (a .address) (a .slot) _ (ne-eqb _ _ (at-name .before .before .before .before .if1 .left)) (passed (c .before)) (sym (tested (at-name .before)) ∙ not-false _ (at-name .if3 .left)))
+    sym (hit _ _ _ _ _ _ (ne-eqb _ _ (at-name .before .before .before .before .if1 .left)) (passed (c .before)) (sym (tested (at-name .before)) ∙ not-false _ (at-name .if3 .left)))
 
 pub follow-spec : {M : Type 1} → statement M
 follow-spec =

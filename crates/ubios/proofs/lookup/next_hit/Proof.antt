@@ -1,22 +1,17 @@
 -- `ubios::lookup::next_hit` meets its contract. The loop's invariant: the slots passed over hold no hit, so those of the rest are all.
 -- Assumes nothing.
-use Prim.Native.Nat.{ℕ, _+_, _*_, _-_}
+use Prim.Native.Nat.{ℕ, _*_, _-_}
 use mathlib.Core.Path.{_≡_, refl, sym, ap, _∙_}
-use mathlib.Core.List.{_∷_}
 use lib.ListN.{drop}
 use Rattle.le.specs.Word.{word}
-use Rattle.ubios.specs.Layout.{addresses}
-use Rattle.ubios.specs.Lookup.{hits}
 use Rattle.ubios.specs.Helpers.{hitOf, firstOf}
-use Rattle.ubios.proofs.Walking.{slots-from, slots-end, no-slots, turn, met}
+use Rattle.ubios.proofs.Walking.{onward, none-left, turn, met}
 use borrow.Author.Needs.{needs}
 use Rattle.ubios.proofs.lookup.next_hit.Statement.{statement}
 use Rattle.ubios.proofs.lookup.next_hit.Tie as tie
 
 abbrev Inv-loop : tie.InvT-loop
-Inv-loop region base name slots count from slot₀ slot =
-    hits region base name slot (addresses (count - slot) (drop (8 * slot) slots))
-    ≡ hits region base name from (addresses (count - from) (drop (8 * from) slots))
+Inv-loop region base name slots count from slot₀ slot = onward region base name count slots slot ≡ onward region base name count slots from
 
 abbrev μ-loop : tie.MeasureT-loop
 μ-loop region base name slots count from slot₀ slot = count - slot
@@ -39,40 +34,22 @@ enum-told c = search needs
 enum-known-hit : tie.Need-enum-known-hit Inv-loop μ-loop
 enum-known-hit c = search needs
 
--- one turn: the slot's address, and what it leads to
-abbrev slot : tie.After-follow Inv-loop μ-loop → ℕ
-slot c = c .before .before .before .loop .slot
-
+-- one turn: what the slot leads to
 abbrev start : tie.After-follow Inv-loop μ-loop → tie.Start Inv-loop μ-loop
 start c = c .before .before .before .before .before .before .before
 
-abbrev address : tie.After-follow Inv-loop μ-loop → ℕ
-address c = word 8 (drop (8 * slot c) (start c .args .slots .now))
+abbrev slot : tie.After-follow Inv-loop μ-loop → ℕ
+slot c = c .before .before .before .loop .slot
 
 follows : (c : tie.After-follow Inv-loop μ-loop)
-    → c .follow .result ≡ hitOf (start c .args .region .now) (start c .args .base) (start c .args .name .now) (slot c) (address c)
-follows c =
-    let a = start c .args in
-    c .follow .ensures ∙ ap (hitOf (a .region .now) (a .base) (a .name .now) (slot c)) (c .before .u64-at .ensures)
-
--- so far as the slots are walked, what is met from this one on is all
-rest : (c : tie.After-follow Inv-loop μ-loop)
-    → hits (start c .args .region .now) (start c .args .base) (start c .args .name .now) (slot c)
-    (address c ∷ addresses (start c .args .count - (slot c + 1)) (drop (8 * (slot c + 1)) (start c .args .slots .now)))
-    ≡ hits (start c .args .region .now) (start c .args .base) (start c .args .name .now) (start c .args .from)
-    (addresses (start c .args .count - start c .args .from) (drop (8 * start c .args .from) (start c .args .slots .now)))
-rest c =
-    let a = start c .args in
-    ap (hits (a .region .now) (a .base) (a .name .now) (slot c)) (sym (slots-from (a .slots .now) (a .count) (slot c) (search needs)))
-    ∙ c .before .before .before .loop .inv
+    → c .follow .result
+    ≡ hitOf (start c .args .region .now) (start c .args .base) (start c .args .name .now) (slot c) (word 8 (drop (8 * slot c) (start c .args .slots .now)))
+follows c = c .follow .ensures ∙ ap (hitOf _ _ _ (slot c)) (c .before .u64-at .ensures)
 
 returns : tie.Need-returns Inv-loop μ-loop
 returns c =
     let at-follow = c .before .before .before in
-    let a = start at-follow .args in
-    sym
-    (ap firstOf (sym (rest at-follow))
-    ∙ met (a .region .now) (a .base) (a .name .now) (slot at-follow) (address at-follow) _ _ (sym (follows at-follow) ∙ c .before .hit .given .1))
+    sym (ap firstOf (sym (at-follow .before .before .before .loop .inv) ∙ met _ _ _ _ _ _ (search needs) _ (sym (follows at-follow) ∙ c .before .hit .given .1)))
 
 add-slot : tie.Need-add-slot Inv-loop μ-loop
 add-slot c = search needs
@@ -83,16 +60,10 @@ loop-less c = search needs
 loop-again : tie.Need-loop-again Inv-loop μ-loop
 loop-again c =
     let at-follow = c .before .before in
-    let a = start at-follow .args in
-    sym (turn (a .region .now) (a .base) (a .name .now) (slot at-follow) (address at-follow) _ (sym (follows at-follow) ∙ c .enum-told .given .1))
-    ∙ rest at-follow
+    sym (turn _ _ _ _ _ _ (search needs) (sym (follows at-follow) ∙ c .enum-told .given .1)) ∙ at-follow .before .before .before .loop .inv
 
 returns-2 : tie.Need-returns-2 Inv-loop μ-loop
-returns-2 c =
-    let at-loop = c .before in
-    let a = at-loop .before .before .before .before .args in
-    let none = ap (hits (a .region .now) (a .base) (a .name .now) (at-loop .loop .slot)) (slots-end (drop (8 * at-loop .loop .slot) (a .slots .now)) (a .count) (at-loop .loop .slot) (search needs)) in
-    sym (ap firstOf (sym (at-loop .loop .inv) ∙ none ∙ no-slots (a .region .now) (a .base) (a .name .now) (at-loop .loop .slot)))
+returns-2 c = sym (ap firstOf (sym (c .before .loop .inv) ∙ none-left _ _ _ _ _ _ (search needs)))
 
 pub next-hit-spec : {M : Type 1} → statement M
 next-hit-spec =
