@@ -1,151 +1,108 @@
 -- The laws of the checks: one for each answer, with what leads there.
 -- Assumes nothing.
-use Prim.Native.Nat.{ℕ, _+_, _*_, _-_, _/_, _%_, _≤_, _<_}
-use mathlib.Core.Bool.{true, false, not}
-use mathlib.Core.Path.{_≡_, refl, sym, ap, subst, _∙_}
+use Prim.Native.Nat.{ℕ, _+_, _*_, _/_, _≤_, _<_}
+use mathlib.Core.Bool.{Bool, false, cond, _&&_, _||_}
+use mathlib.Core.Path.{_≡_, refl, sym, ap, ap₂, subst, _∙_}
 use mathlib.Core.List.{List}
-use borrow.Author.Tests.{lt-ltb, le-ltb, eq-eqb, ne-eqb, ltb-false, eqb-true, not-false}
+use borrow.Author.Tests.{lt-ltb, le-ltb, eq-eqb, ltb-false, eqb-true, not-false}
 use native.Mathlib.Nat.{suc-mul, le-div-iff-mul-le}
 use native.Mathlib.Omega.{arith}
-use lib.Dec.{ltb, eqb}
+use lib.Dec.{eqb}
 use lib.ListN.{length}
 use Rattle.le.specs.Sum.{sum}
-use Rattle.le.proofs.Tests.{apart, neither, taken, past}
-use Rattle.sfi.specs.Kinds.{wake, kindOf}
-use Rattle.sfi.specs.Checks.{headerSize, lengthMax, signatureOf, lengthOf, revisionOf, summedPart, badLength, wrongRevision, badEntries, judged, judgedAs, checked, entriesOf, entryAt, entryOf, passesAs}
+use Rattle.le.proofs.Tests.{apart, neither, past}
+use Rattle.sfi.specs.Kinds.{kindOf}
+use Rattle.sfi.specs.Checks.{lengthMax, signatureOf, lengthOf, revisionOf, shortSlice, underHeader, overMost, pastSlice, badLength, wrongRevision, uneven, isWake, notOneEntry, badEntries, judged, judgedAs, headerChecked, summedPart, wrongSum, summed, checked, entriesOf, entryAt, entryOf, passesAs}
 use Rattle.sfi.specs.Statements.{Sized, Passing, PassesOnly}
 use Rattle.sfi.specs.declared.kind.Kind.{Kind}
 use Rattle.sfi.specs.declared.kind.Known.{Known}
 use Rattle.sfi.specs.declared.kind.Known.the-variants.{Is, Unknown}
 use Rattle.sfi.specs.declared.Table.{Table}
 use Rattle.sfi.specs.declared.Reason.{Reason}
-use Rattle.sfi.specs.declared.Reason.the-variants.{BadLength, WrongSum, UnknownSignature, BadEntries, WrongRevision, NoEntry}
+use Rattle.sfi.specs.declared.Reason.the-variants.{BadLength, WrongSum, BadEntries, WrongRevision, NoEntry}
+use Rattle.sfi.specs.declared.Checked.{Checked}
 use Rattle.sfi.specs.declared.Checked.the-variants.{Passed, Refused}
 use Rattle.sfi.specs.declared.Entry.the-variants.{At, Refused as NotThere}
 use Rattle.sfi.proofs.Listing.{listed}
 
--- which lengths are bad
+-- 40 by its tests, and what is known of a length that is good
 module _ (size total : ℕ) where
-  pub short-slice : size < headerSize → badLength size total ≡ true
+  pub length-tested : {a b c d : Bool} → shortSlice size ≡ a → underHeader total ≡ b → overMost total ≡ c → pastSlice size total ≡ d
+      → badLength size total ≡ a || (b || (c || d))
   unfolding badLength
-  short-slice h = rw (lt-ltb size headerSize h)
+  length-tested p q r s = ap₂ _||_ p (ap₂ _||_ q (ap₂ _||_ r s))
 
-  module _ (holds : headerSize ≤ size) where
-    pub under-header : total < headerSize → badLength size total ≡ true
-    unfolding badLength
-    under-header h = rw (le-ltb size headerSize holds, lt-ltb total headerSize h)
+  pub good-length : Sized size total → badLength size total ≡ false
+  good-length s = length-tested (le-ltb _ _ (s .slice)) (le-ltb _ _ (s .least)) (le-ltb _ _ (s .most)) (le-ltb _ _ (s .inside))
 
-    module _ (least : headerSize ≤ total) where
-      pub over-most : lengthMax < total → badLength size total ≡ true
-      unfolding badLength
-      over-most h = rw (le-ltb size headerSize holds, le-ltb total headerSize least, lt-ltb lengthMax total h)
+  pub sized : badLength size total ≡ false → Sized size total
+  unfolding badLength
+  sized e =
+      let p = neither (shortSlice size) _ e in
+      let q = neither (underHeader total) _ (p .1) in
+      let r = neither (overMost total) _ (q .1) in
+      record { slice = ltb-false _ _ (p .0); least = ltb-false _ _ (q .0); most = omega (arith, ltb-false lengthMax total (r .0)); inside = ltb-false _ _ (r .1) }
 
-      pub by-slice : total ≤ lengthMax → badLength size total ≡ ltb size total
-      unfolding badLength
-      by-slice h = rw (le-ltb size headerSize holds, le-ltb total headerSize least, le-ltb lengthMax total h)
+-- 43 by its tests
+pub entries-tested : (kind : Kind) (total : ℕ) {a b c : Bool} → uneven kind total ≡ a → isWake kind ≡ b → notOneEntry total ≡ c → badEntries kind total ≡ a || (b && c)
+unfolding badEntries
+entries-tested kind total p q r = ap₂ _||_ p (ap₂ _&&_ q r)
 
--- what is known of a length that is not
-pub sized : (size total : ℕ) → badLength size total ≡ false → Sized size total
-unfolding badLength
-sized size total e =
-    let p = neither (ltb size headerSize) _ e in
-    let q = neither (ltb total headerSize) _ (p .1) in
-    let r = neither (ltb lengthMax total) _ (q .1) in
-    record {
-      slice = ltb-false size headerSize (p .0);
-      least = ltb-false total headerSize (q .0);
-      most = omega (arith, ltb-false lengthMax total (r .0));
-      inside = ltb-false size total (r .1);
-    }
-
--- a length that is good is so in a slice of just that length
-pub exact : (size total : ℕ) → badLength size total ≡ false → badLength total total ≡ false
-unfolding badLength
-exact size total e =
-    let p = neither (ltb size headerSize) _ e in
-    let q = neither (ltb total headerSize) _ (p .1) in
-    let r = neither (ltb lengthMax total) _ (q .1) in
-    rw (q .0, r .0, le-ltb total total (omega arith))
-
--- which lengths do not go with a kind's entries
-module _ (kind : Kind) (total : ℕ) where
-  pub uneven : ((total - headerSize) % kind .entry ≡ 0 → ⊥) → badEntries kind total ≡ true
-  unfolding badEntries
-  uneven ne = rw (ne-eqb ((total - headerSize) % kind .entry) 0 ne)
-
-  module _ (even : (total - headerSize) % kind .entry ≡ 0) where
-    pub not-wake : (kind .signature ≡ wake .signature → ⊥) → badEntries kind total ≡ false
-    unfolding badEntries
-    not-wake ne = rw (eq-eqb ((total - headerSize) % kind .entry) 0 even, ne-eqb (kind .signature) (wake .signature) ne)
-
-    pub wake-length : kind .signature ≡ wake .signature → badEntries kind total ≡ not (eqb total 32)
-    unfolding badEntries
-    wake-length e = rw (eq-eqb ((total - headerSize) % kind .entry) 0 even, eq-eqb (kind .signature) (wake .signature) e)
-
--- 44, 43, 41
-module _ (kind : Kind) (t : List ℕ) where
-  pub judged-revision : wrongRevision kind (revisionOf t) ≡ true → judged kind t ≡ Refused WrongRevision
-  unfolding judged
-  judged-revision e = rw e
-
-  module _ (revision : wrongRevision kind (revisionOf t) ≡ false) where
-    pub judged-entries : badEntries kind (lengthOf t) ≡ true → judged kind t ≡ Refused BadEntries
-    unfolding judged
-    judged-entries e = rw (revision, e)
-
-    module _ (entries : badEntries kind (lengthOf t) ≡ false) where
-      pub judged-sum : (sum 1 (summedPart t) ≡ 0 → ⊥) → judged kind t ≡ Refused WrongSum
-      unfolding judged
-      judged-sum ne = rw (revision, entries, ne-eqb (sum 1 (summedPart t)) 0 ne)
-
-      pub judged-passed : sum 1 (summedPart t) ≡ 0 → judged kind t ≡ Passed (record { kind = kind; length = lengthOf t })
-      unfolding judged
-      judged-passed e = rw (revision, entries, eq-eqb (sum 1 (summedPart t)) 0 e)
+-- 44 and 43, with Length as it was read
+pub judged-tested : (kind : Kind) (header : List ℕ) {n : ℕ} {a b : Bool} → n ≡ lengthOf header → wrongRevision kind (revisionOf header) ≡ a → badEntries kind n ≡ b
+    → judged kind header ≡ cond a (Refused WrongRevision) (cond b (Refused BadEntries) (Passed (record { kind = kind; length = n })))
+unfolding judged
+judged-tested kind header read p q = rw (p, ← read, q)
 
 -- 40, 42, and what is left to them
-module _ (t : List ℕ) where
-  pub bad-length : badLength (length t) (lengthOf t) ≡ true → checked t ≡ Refused BadLength
-  unfolding checked
-  bad-length e = taken _ (badLength (length t) (lengthOf t)) e
+pub header-tested : (size : ℕ) (header : List ℕ) {a : Bool} {m : Known} → badLength size (lengthOf header) ≡ a → kindOf (signatureOf header) ≡ m
+    → headerChecked size header ≡ cond a (Refused BadLength) (judgedAs m header)
+unfolding headerChecked
+header-tested size header p q = ap₂ (λ (a : Bool) (m : Known). cond a (Refused BadLength) (judgedAs m header)) p q
 
-  module _ (size : badLength (length t) (lengthOf t) ≡ false) where
-    pub unknown : kindOf (signatureOf t) ≡ Unknown → checked t ≡ Refused UnknownSignature
-    unfolding checked
-    unknown e = rw (size, e)
-
-    pub known : (kind : Kind) → kindOf (signatureOf t) ≡ Is kind → checked t ≡ judged kind t
-    unfolding checked
-    known kind e = rw (size, e)
-
--- past the test of Length
-pub past-length : (t : List ℕ) (table : Table) → checked t ≡ Passed table
-    → (badLength (length t) (lengthOf t) ≡ false) × (judgedAs (kindOf (signatureOf t)) t ≡ Passed table)
+-- what the header leaves to the sum, and 41
+pub header-then : (t : List ℕ) {c : Checked} → headerChecked (length t) t ≡ c → checked t ≡ summed c t
 unfolding checked
-past-length t table e = past (badLength (length t) (lengthOf t)) (λ q. apart (cc)) e
+header-then t e = rw e
+
+pub sum-tested : (t : List ℕ) (table : Table) {a : Bool} → headerChecked (length t) t ≡ Passed table → wrongSum (summedPart table t) ≡ a
+    → checked t ≡ cond a (Refused WrongSum) (Passed table)
+sum-tested t table p q = header-then t p ∙ rw q
+
+-- what passes has a header that does, and its sum
+pub past-sum : (t : List ℕ) (table : Table) → checked t ≡ Passed table → (headerChecked (length t) t ≡ Passed table) × (sum 1 (summedPart table t) ≡ 0)
+past-sum t table e = go (headerChecked (length t) t) refl
+  where
+    go : (c : Checked) → headerChecked (length t) t ≡ c → (headerChecked (length t) t ≡ Passed table) × (sum 1 (summedPart table t) ≡ 0)
+    go (Refused reason) q = let z = sym (header-then t q) ∙ e in apart (cc)
+    go (Passed found) q =
+        let z = past (wrongSum (summedPart found t)) (λ x. apart (cc)) (sym (header-then t q) ∙ e) in
+        let is : found ≡ table = let all = z .1 in cc in
+        (q ∙ ap Passed is, ap (λ (x : Table). sum 1 (summedPart x t)) (sym is) ∙ eqb-true _ _ (not-false _ (z .0)))
 
 pub passes-only : PassesOnly
-unfolding judged badEntries
+unfolding headerChecked judged badEntries
 passes-only t table e =
-    let s = past-length t table e in
-    go (sized (length t) (lengthOf t) (s .0)) (kindOf (signatureOf t)) refl (s .1)
+    let z = past-sum t table e in
+    let s = past (badLength (length t) (lengthOf t)) (λ q. apart (cc)) (z .0) in
+    go (sized (length t) (lengthOf t) (s .0)) (z .1) (kindOf (signatureOf t)) refl (s .1)
   where
-    go : Sized (length t) (lengthOf t) → (m : Known) → kindOf (signatureOf t) ≡ m → judgedAs m t ≡ Passed table → Passing t table
-    go s Unknown q e = apart (cc)
-    go s (Is k) q e =
-        let r = past (wrongRevision k (revisionOf t)) (λ z. apart (cc)) e in
-        let n = past (badEntries k (lengthOf t)) (λ z. apart (cc)) (r .1) in
-        let z = past (not (eqb (sum 1 (summedPart t)) 0)) (λ z. apart (cc)) (n .1) in
-        let even = eqb-true ((lengthOf t - headerSize) % k .entry) 0 (not-false _ (neither _ _ (n .0) .0)) in
-        let is : record { kind = k; length = lengthOf t } ≡ table = let all = z .1 in cc in
+    go : Sized (length t) (lengthOf t) → sum 1 (summedPart table t) ≡ 0 → (m : Known) → kindOf (signatureOf t) ≡ m → judgedAs m t ≡ Passed table → Passing t table
+    go s z Unknown q e = apart (cc)
+    go s z (Is k) q e =
+        let r = past (wrongRevision k (revisionOf t)) (λ x. apart (cc)) e in
+        let n = past (badEntries k (lengthOf t)) (λ x. apart (cc)) (r .1) in
+        let even = neither (uneven k (lengthOf t)) _ (n .0) .0 in
+        let is : record { kind = k; length = lengthOf t } ≡ table = let all = n .1 in cc in
         subst (Passing t) is
         (record {
           sized = s;
           kind = q;
           signed = listed (signatureOf t) k q .signed;
-          revision = eqb-true (revisionOf t) (k .revision) (not-false _ (r .0));
-          entries = even;
-          one-entry = λ w. eqb-true (lengthOf t) 32 (not-false _ (sym (wake-length k (lengthOf t) even (ap (λ (x : Kind). x .signature) w)) ∙ n .0));
-          zero = eqb-true (sum 1 (summedPart t)) 0 (not-false _ (z .0));
+          revision = eqb-true _ _ (not-false _ (r .0));
+          entries = eqb-true _ _ (not-false _ even);
+          one-entry = λ w. eqb-true _ _ (not-false _ (sym (entries-tested k (lengthOf t) even (eq-eqb _ _ (ap (λ (x : Kind). x .signature) w)) refl) ∙ n .0));
+          zero = ap (λ (x : Table). sum 1 (summedPart x t)) is ∙ z;
           length-is = refl;
         })
 

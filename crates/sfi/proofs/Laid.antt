@@ -4,7 +4,7 @@ use Prim.Native.Nat.{ℕ, _+_, _*_, _-_, _%_, _≤_}
 use mathlib.Core.Bool.{Bool, true, false, not}
 use mathlib.Core.Path.{_≡_, refl, sym, ap, ap₂, _∙_}
 use mathlib.Core.List.{List, _++_, append-assoc}
-use borrow.Author.Tests.{eq-eqb, le-ltb, eqb-true, eqb-false}
+use borrow.Author.Tests.{eq-eqb, eqb-true}
 use native.Mathlib.Nat.{mul-mod-left}
 use native.Mathlib.Omega.{arith}
 use lib.Dec.{eqb}
@@ -15,13 +15,13 @@ use Rattle.le.specs.Sum.{sum, checksumOf}
 use Rattle.le.proofs.Words.{word-bytes, length-bytes}
 use Rattle.le.proofs.Sums.{checksum}
 use Rattle.sfi.specs.Kinds.{wake, kindOf}
-use Rattle.sfi.specs.Checks.{headerSize, lengthMax, signatureOf, lengthOf, revisionOf, summedPart, badLength, wrongRevision, badEntries, checked}
+use Rattle.sfi.specs.Checks.{headerSize, lengthMax, signatureOf, lengthOf, revisionOf, badLength, uneven, isWake, badEntries, checked}
 use Rattle.sfi.specs.Statements.{headOf, tableOf, LaidPasses}
 use Rattle.sfi.specs.declared.kind.Kind.{Kind}
 use Rattle.sfi.specs.declared.kind.Known.the-variants.{Is}
 use Rattle.sfi.specs.declared.Checked.the-variants.{Passed}
 use Rattle.sfi.proofs.Listing.{Listed, listed}
-use Rattle.sfi.proofs.Answers.{by-slice, not-wake, wake-length, judged-passed, known}
+use Rattle.sfi.proofs.Answers.{good-length, entries-tested, judged-tested, header-tested, sum-tested}
 use Rattle.sfi.proofs.Theorems.{kinds-known, same-kind}
 
 module _ (kind : Kind) (oem entries rest : List ℕ)
@@ -70,42 +70,40 @@ module _ (kind : Kind) (oem entries rest : List ℕ)
   head-length : length head ≡ 9
   head-length = simp (length-append, length-bytes)
 
-  sums : sum 1 (summedPart table) ≡ 0
+  sums : sum 1 (take total table) ≡ 0
   sums =
-      ap (λ (n : ℕ). sum 1 (take n table)) length-is
-      ∙ ap (sum 1) (take-at (tableOf kind oem entries) rest total table-length)
+      ap (sum 1) (take-at (tableOf kind oem entries) rest total table-length)
       ∙ checksum 1 9 head (oem ++ entries) (omega arith) (head-length ∙ omega arith)
 
   good : badLength (length table) (lengthOf table) ≡ false
   good =
       let size : length table ≡ total + length rest = length-append (tableOf kind oem entries) rest ∙ ap (λ (n : ℕ). n + length rest) table-length in
-      rw (length-is, size) (by-slice (total + length rest) total (omega arith) (omega arith) most ∙ le-ltb (total + length rest) total (omega arith))
+      rw (length-is, size) (good-length (total + length rest) total (record { slice = omega arith; least = omega arith; most = most; inside = omega arith }))
 
   laid : badEntries kind total ≡ false → checked table ≡ Passed (record { kind = kind; length = total })
   laid even =
-      let same-kind : kindOf (signatureOf table) ≡ Is kind = ap (λ (n : ℕ). kindOf n) signature-is ∙ is in
-      let revision : wrongRevision kind (revisionOf table) ≡ false = rw (revision-is, eq-eqb (kind .revision) (kind .revision) refl) in
-      known table good kind same-kind
-      ∙ judged-passed kind table revision (ap (badEntries kind) length-is ∙ even) sums
-      ∙ ap (λ (n : ℕ). Passed (record { kind = kind; length = n })) length-is
+      sum-tested table (record { kind = kind; length = total })
+      (header-tested (length table) table good (ap (λ (n : ℕ). kindOf n) signature-is ∙ is)
+      ∙ judged-tested kind table (sym length-is) (ap not (eq-eqb _ _ revision-is)) even)
+      (ap (λ (n : ℕ). not (eqb n 0)) sums)
 
 -- whole entries, and one for WAKE, make a good Length
 whole-entries : (kind : Kind) (n total : ℕ) → kindOf (kind .signature) ≡ Is kind → total ≡ headerSize + n * kind .entry → (kind .signature ≡ wake .signature → n ≡ 1)
     → badEntries kind total ≡ false
-whole-entries kind n total is long one = go (eqb (kind .signature) (wake .signature)) refl
+whole-entries kind n total is long one = go (isWake kind) refl
   where
-    even : (total - headerSize) % kind .entry ≡ 0
+    even : uneven kind total ≡ false
     even =
         let entries : total - headerSize ≡ n * kind .entry = omega arith in
-        ap (λ (k : ℕ). k % kind .entry) entries ∙ mul-mod-left n (kind .entry)
+        ap not (eq-eqb _ _ (ap (λ (k : ℕ). k % kind .entry) entries ∙ mul-mod-left n (kind .entry)))
 
-    go : (t : Bool) → eqb (kind .signature) (wake .signature) ≡ t → badEntries kind total ≡ false
+    go : (t : Bool) → isWake kind ≡ t → badEntries kind total ≡ false
     go true q =
         let signed = eqb-true (kind .signature) (wake .signature) q in
         let same : kind ≡ wake = same-kind (wake .signature) kind wake (ap (λ (k : ℕ). kindOf k) (sym signed) ∙ is) (kinds-known .9) in
         let single : total ≡ 32 = long ∙ ap₂ (λ (k : ℕ) (x : Kind). headerSize + k * x .entry) (one signed) same in
-        wake-length kind total even signed ∙ ap not (eq-eqb total 32 single)
-    go false q = not-wake kind total even (eqb-false (kind .signature) (wake .signature) q)
+        entries-tested kind total even q (ap not (eq-eqb _ _ single))
+    go false q = entries-tested kind total even q refl
 
 pub laid-passes : LaidPasses
 laid-passes kind n oem entries rest is strings whole one most =

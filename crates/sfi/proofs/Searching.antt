@@ -1,8 +1,8 @@
 -- The laws of the search for SYST, and of the choice.
 -- Assumes nothing.
 use Prim.Native.Nat.{ℕ, suc, _+_, _*_, _-_, _%_, _≤_, _<_}
-use mathlib.Core.Bool.{Bool, true, false, _&&_}
-use mathlib.Core.Path.{_≡_, refl}
+use mathlib.Core.Bool.{Bool, true, false, cond, _&&_}
+use mathlib.Core.Path.{_≡_, refl, ap, ap₂, _∙_}
 use mathlib.Core.List.{List, [], _∷_}
 use borrow.Author.Tests.{eq-eqb, ne-eqb, le-leb, lt-leb}
 use native.Mathlib.Omega.{arith}
@@ -16,6 +16,7 @@ use Rattle.sfi.specs.declared.Reason.{Reason}
 use Rattle.sfi.specs.declared.Reason.the-variants.{BadMemory, NoSyst, Neither}
 use Rattle.sfi.specs.declared.Checked.{Checked}
 use Rattle.sfi.specs.declared.Checked.the-variants.{Passed, Refused}
+use Rattle.sfi.specs.declared.search.Found.{Found}
 use Rattle.sfi.specs.declared.search.Found.the-variants.{At, Refused as NotFound}
 use Rattle.sfi.specs.declared.choice.Chosen.the-variants.{Board, BuiltIn, Refused as NotChosen}
 use Rattle.sfi.proofs.Answers.{passes-as, fails-as}
@@ -57,50 +58,44 @@ module _ (memory : List ℕ) (at : ℕ) where
       )
 
 -- the places from one on
-pub places-from : (i : ℕ) → i < tries → places (tries - i) (step * i) ≡ step * i ∷ places (tries - (i + 1)) (step * (i + 1))
+places-from : (i : ℕ) → i < tries → places (tries - i) (step * i) ≡ step * i ∷ places (tries - (i + 1)) (step * (i + 1))
 unfolding places
 places-from i h =
     let one-less : tries - i ≡ suc (tries - (i + 1)) = omega arith in
     let on : step * i + step ≡ step * (i + 1) = omega arith in
     rw (one-less, on)
 
-pub no-places : (i at : ℕ) → tries ≤ i → places (tries - i) at ≡ []
+no-places : (i at : ℕ) → tries ≤ i → places (tries - i) at ≡ []
 unfolding places
 no-places i at h = let none : tries - i ≡ 0 = omega arith in rw none
 
--- the first hit among places
+-- the search from the i-th place on: at a hit, past another place, and at the end
 module _ (memory : List ℕ) where
-  pub none-left : firstHit memory [] ≡ NotFound NoSyst
-  unfolding firstHit
-  none-left = refl
+  abbrev pub from : ℕ → Found
+  from i = firstHit memory (places (tries - i) (step * i))
 
-  pub hit-here : (at : ℕ) (rest : List ℕ) → isHit memory at ≡ true → firstHit memory (at ∷ rest) ≡ At at
+  pub over : (i : ℕ) → i < tries → isHit memory (step * i) ≡ false → from i ≡ from (i + 1)
   unfolding firstHit
-  hit-here at rest e = rw e
+  over i h e = ap (firstHit memory) (places-from i h) ∙ rw e
 
-  pub further-on : (at : ℕ) (rest : List ℕ) → isHit memory at ≡ false → firstHit memory (at ∷ rest) ≡ firstHit memory rest
+  pub at : (i : ℕ) → i < tries → isHit memory (step * i) ≡ true → from i ≡ At (step * i)
   unfolding firstHit
-  further-on at rest e = rw e
+  at i h e = ap (firstHit memory) (places-from i h) ∙ rw e
+
+  pub end : (i : ℕ) → tries ≤ i → from i ≡ NotFound NoSyst
+  unfolding firstHit
+  end i h = ap (firstHit memory) (no-places i (step * i) h)
 
   pub bad-memory : (length memory ≡ memorySize → ⊥) → located memory ≡ NotFound BadMemory
   unfolding located
   bad-memory ne = rw (ne-eqb (length memory) memorySize ne)
 
-  pub searched : length memory ≡ memorySize → located memory ≡ firstHit memory (places tries 0)
+  pub searched : length memory ≡ memorySize → located memory ≡ from 0
   unfolding located
   searched e = rw (eq-eqb (length memory) memorySize e)
 
--- which table is chosen
-module _ (signature : ℕ) (board built-in : List ℕ) where
-  pub the-board : passesAs signature (checked board) ≡ true → between signature board built-in ≡ Board
-  unfolding between
-  the-board e = rw e
-
-  module _ (not-board : passesAs signature (checked board) ≡ false) where
-    pub the-built-in : passesAs signature (checked built-in) ≡ true → between signature board built-in ≡ BuiltIn
-    unfolding between
-    the-built-in e = rw (not-board, e)
-
-    pub neither-one : passesAs signature (checked built-in) ≡ false → between signature board built-in ≡ NotChosen Neither
-    unfolding between
-    neither-one e = rw (not-board, e)
+-- which table is chosen, by its tests
+pub between-tested : (signature : ℕ) (board built-in : List ℕ) {a b : Bool} → passesAs signature (checked board) ≡ a → passesAs signature (checked built-in) ≡ b
+    → between signature board built-in ≡ cond a Board (cond b BuiltIn (NotChosen Neither))
+unfolding between
+between-tested signature board built-in p q = ap₂ (λ (a b : Bool). cond a Board (cond b BuiltIn (NotChosen Neither))) p q

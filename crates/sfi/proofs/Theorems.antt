@@ -1,30 +1,30 @@
 -- The theorems of `specs/Statements.antt` on signatures, the search, entries and the choice.
 -- Assumes nothing.
 use Prim.Native.Nat.{ℕ, zero, suc, _+_, _*_, _-_, _/_, _%_, _≤_, _<_}
-use mathlib.Core.Bool.{Bool, true, false}
+use mathlib.Core.Bool.{Bool, true, false, cond, not}
 use mathlib.Core.Path.{_≡_, refl, sym, ap, subst, _∙_}
 use mathlib.Core.List.{List, []}
-use borrow.Author.Tests.{ltb-true, ltb-false, leb-true, eqb-true, eqb-false}
+use borrow.Author.Tests.{lt-ltb, ltb-true, ltb-false, leb-true, eqb-true, eqb-false}
 use native.Mathlib.Nat.{suc-mul, le-div-iff-mul-le}
 use native.Mathlib.Numerals.{add-one}
 use native.Mathlib.Omega.{arith}
 use lib.Dec.{ltb, eqb}
 use lib.ListN.{length, take, drop, drop-of-length-le}
-use lib.Seq.{length-take-le, take-all}
+use lib.Seq.{length-take-le, take-all, take-take}
 use Rattle.le.specs.Word.{word}
 use Rattle.le.proofs.Words.{word-within}
 use Rattle.le.proofs.Tests.{apart, never, both}
 use Rattle.sfi.specs.Kinds.{syst, among, kindOf}
-use Rattle.sfi.specs.Checks.{headerSize, signatureOf, lengthOf, judged, judgedAs, checked, entriesOf, entryAt, passesAs}
-use Rattle.sfi.specs.Search.{memorySize, step, tries, inPage, isHit, places, firstHit, located}
-use Rattle.sfi.specs.Statements.{SignaturesSpell, KindsKnown, Hit, HitIs, IsHit, FoundLowest, LowestFound, NoHit, NoneFound, Inside, EntryInside, EntryExactly, Chooses, Whole, PartPasses}
-use Rattle.sfi.specs.Choice.{between, asked, chosen, partOf}
+use Rattle.sfi.specs.Checks.{headerSize, signatureOf, lengthOf, badLength, judged, judgedAs, headerChecked, summedPart, wrongSum, checked, entriesOf, entryAt, passesAs}
+use Rattle.sfi.specs.Search.{memorySize, step, tries, inPage, isHit, located}
+use Rattle.sfi.specs.Statements.{SignaturesSpell, KindsKnown, HeaderAlone, Hit, HitIs, IsHit, FoundLowest, LowestFound, NoHit, NoneFound, Inside, EntryInside, EntryExactly, Chooses, Whole, PartPasses}
+use Rattle.sfi.specs.Choice.{asked, chosen, partOf}
 use Rattle.sfi.specs.declared.kind.Kind.{Kind}
 use Rattle.sfi.specs.declared.kind.Known.{Known}
 use Rattle.sfi.specs.declared.kind.Known.the-variants.{Is, Unknown}
 use Rattle.sfi.specs.declared.Table.{Table}
 use Rattle.sfi.specs.declared.Reason.{Reason}
-use Rattle.sfi.specs.declared.Reason.the-variants.{BadLength, UnknownSignature, BadMemory, NoSyst}
+use Rattle.sfi.specs.declared.Reason.the-variants.{BadLength, UnknownSignature, BadMemory, NoSyst, Neither}
 use Rattle.sfi.specs.declared.Checked.{Checked}
 use Rattle.sfi.specs.declared.Checked.the-variants.{Passed, Refused as Failed}
 use Rattle.sfi.specs.declared.search.Found.{Found}
@@ -32,8 +32,8 @@ use Rattle.sfi.specs.declared.search.Found.the-variants.{At, Refused}
 use Rattle.sfi.specs.declared.choice.Chosen.{Chosen}
 use Rattle.sfi.specs.declared.choice.Chosen.the-variants.{Board, BuiltIn, Refused as NotChosen}
 use Rattle.sfi.proofs.Listing.{listed}
-use Rattle.sfi.proofs.Answers.{short-slice, exact, bad-length, past-length, passes-only, passes-as, entry-end, has-entry, no-entry, fails-as}
-use Rattle.sfi.proofs.Searching.{fails, hit, places-from, no-places, none-left, hit-here, further-on, bad-memory, searched, the-board, the-built-in, neither-one}
+use Rattle.sfi.proofs.Answers.{length-tested, good-length, header-tested, header-then, sum-tested, past-sum, passes-only, passes-as, entry-end, has-entry, no-entry, fails-as}
+use Rattle.sfi.proofs.Searching.{fails, hit, from, over, at, end, bad-memory, searched, between-tested}
 
 pub signatures-spell : SignaturesSpell
 unfolding word
@@ -84,20 +84,7 @@ beyond : (memory : List ℕ) (o : ℕ) → length memory ≤ o → isHit memory 
 beyond memory o h =
     let none : drop o memory ≡ [] = drop-of-length-le memory {i = o} h in
     let short : length (drop o memory) ≡ 0 = ap length none in
-    fails memory o BadLength (bad-length (drop o memory) (short-slice (length (drop o memory)) (lengthOf (drop o memory)) (omega arith)))
-
--- the search from the i-th place on
-abbrev from : List ℕ → ℕ → Found
-from memory i = firstHit memory (places (tries - i) (step * i))
-
-over : (memory : List ℕ) (i : ℕ) → i < tries → isHit memory (step * i) ≡ false → from memory i ≡ from memory (i + 1)
-over memory i h e = ap (firstHit memory) (places-from i h) ∙ further-on memory (step * i) _ e
-
-at : (memory : List ℕ) (i : ℕ) → i < tries → isHit memory (step * i) ≡ true → from memory i ≡ At (step * i)
-at memory i h e = ap (firstHit memory) (places-from i h) ∙ hit-here memory (step * i) _ e
-
-end : (memory : List ℕ) (i : ℕ) → tries ≤ i → from memory i ≡ Refused NoSyst
-end memory i h = ap (firstHit memory) (no-places i (step * i) h) ∙ none-left memory
+    fails memory o BadLength (header-then _ (header-tested _ _ (length-tested _ _ (lt-ltb (length (drop o memory)) headerSize (omega arith)) refl refl refl) refl))
 
 -- n places that are no hits are passed over
 none-to : (memory : List ℕ) (n : ℕ) → n ≤ tries → ((j : ℕ) → j < n → isHit memory (step * j) ≡ false) → from memory 0 ≡ from memory n
@@ -255,34 +242,48 @@ entry-exactly t table k passes =
       λ h. no-entry t k table passes (at-most k (entriesOf table) (λ l. absurd (omega (arith, entry-end (table .length - headerSize) (table .kind .entry) k some l, p .length-is, p .sized .least)))),
     )
 
+-- a word of the header stands in the first n bytes, if these are 24 or more
+same-word : (k i n : ℕ) (t : List ℕ) → i + k ≤ headerSize → headerSize ≤ n → word k (drop i (take n t)) ≡ word k (drop i t)
+same-word k i n t fits h = go (ltb (length t) n) refl
+  where
+    go : (b : Bool) → ltb (length t) n ≡ b → word k (drop i (take n t)) ≡ word k (drop i t)
+    go true q = ap (λ (s : List ℕ). word k (drop i s)) (take-all n t (omega (arith, ltb-true (length t) n q)))
+    go false q = word-within k i n t (omega arith) (ltb-false (length t) n q)
+
+pub header-alone : HeaderAlone
+unfolding headerChecked judged
+header-alone size n t h = rw (read-length, same-word 4 0 n t (omega arith) h, same-judged (kindOf (signatureOf t)))
+  where
+    read-length : lengthOf (take n t) ≡ lengthOf t
+    read-length = same-word 4 4 n t (omega arith) h
+
+    same-judged : (m : Known) → judgedAs m (take n t) ≡ judgedAs m t
+    same-judged Unknown = refl
+    same-judged (Is k) = rw (same-word 1 8 n t (omega arith) h, read-length)
+
 -- The first Length bytes of a table that passes are a table with the same answer.
 module _ (t : List ℕ) (table : Table) (passed : checked t ≡ Passed table) where
   abbrev part : List ℕ
   part = take (lengthOf t) t
 
-  -- a word of the header is in them
-  same-word : (k i : ℕ) → i + k ≤ headerSize → word k (drop i part) ≡ word k (drop i t)
-  same-word k i h = let p = passes-only t table passed in word-within k i (lengthOf t) t (omega (arith, p .sized .least)) (p .sized .inside)
-
   part-length : length part ≡ lengthOf t
   part-length = length-take-le (lengthOf t) t (passes-only t table passed .sized .inside)
 
   same-length : lengthOf part ≡ lengthOf t
-  same-length = same-word 4 4 (omega arith)
-
-  -- so each test says the same of both
-  same-judged : (m : Known) → judgedAs m part ≡ judgedAs m t
-  unfolding judged
-  same-judged Unknown = refl
-  same-judged (Is k) =
-      let all : take (lengthOf t) part ≡ part = take-all (lengthOf t) part (rw part-length (omega arith)) in
-      rw (same-word 1 8 (omega arith), same-length, all)
+  same-length = same-word 4 4 (lengthOf t) t (omega arith) (passes-only t table passed .sized .least)
 
   part-checked : checked part ≡ Passed table
-  unfolding checked
   part-checked =
-      let p = past-length t table passed in
-      rw (part-length, same-length, exact (length t) (lengthOf t) (p .0), same-word 4 0 (omega arith), same-judged) (p .1)
+      let p = passes-only t table passed in
+      let good : badLength (length part) (lengthOf t) ≡ false =
+      rw part-length (good-length (lengthOf t) (lengthOf t) (record { slice = p .sized .least; least = p .sized .least; most = p .sized .most; inside = omega arith })) in
+      let same-part : summedPart table part ≡ summedPart table t = take-take (table .length) (lengthOf t) t (omega (arith, p .length-is)) in
+      sum-tested part table
+      (header-alone (length part) (lengthOf t) t (p .sized .least)
+      ∙ header-tested (length part) t good refl
+      ∙ sym (header-tested (length t) t (good-length (length t) (lengthOf t) (p .sized)) refl)
+      ∙ past-sum t table passed .0)
+      (ap (λ (s : List ℕ). wrongSum s) same-part ∙ ap (λ (n : ℕ). not (eqb n 0)) (past-sum t table passed .1))
 
 -- what is chosen passes
 whole : (signature : ℕ) (t : List ℕ) → passesAs signature (checked t) ≡ true → Whole signature t (take (lengthOf t) t)
@@ -299,40 +300,41 @@ whole signature t h = go (checked t) refl
     go (Failed reason) q = never (sym h ∙ fails-as t reason signature q)
 
 module _ (signature : ℕ) (board built-in : List ℕ) where
-  -- one of the two is chosen only by `between`
-  of-the-two : (m : Known) (c : Chosen) → ((reason : Reason) → c ≡ NotChosen reason → ⊥) → asked m signature board built-in ≡ c → between signature board built-in ≡ c
-  of-the-two (Is k) c some e = e
+  abbrev on-board : Bool
+  on-board = passesAs signature (checked board)
+
+  abbrev in-built : Bool
+  in-built = passesAs signature (checked built-in)
+
+  -- one of the two is chosen only by these tests
+  of-the-two : (m : Known) (c : Chosen) → ((reason : Reason) → c ≡ NotChosen reason → ⊥) → asked m signature board built-in ≡ c
+      → cond on-board Board (cond in-built BuiltIn (NotChosen Neither)) ≡ c
+  of-the-two (Is k) c some e = sym (between-tested signature board built-in refl refl) ∙ e
   of-the-two Unknown c some e = absurd (some UnknownSignature (sym e))
 
-  board-passes : chosen signature board built-in ≡ Board → passesAs signature (checked board) ≡ true
-  board-passes e = go (passesAs signature (checked board)) refl (passesAs signature (checked built-in)) refl
+  board-passes : chosen signature board built-in ≡ Board → on-board ≡ true
+  board-passes e = go on-board in-built (of-the-two (kindOf signature) Board (λ r z. apart (cc)) e)
     where
-      two : between signature board built-in ≡ Board
-      two = of-the-two (kindOf signature) Board (λ r z. apart (cc)) e
+      go : (a b : Bool) → cond a Board (cond b BuiltIn (NotChosen Neither)) ≡ Board → a ≡ true
+      go true b z = refl
+      go false true z = apart (cc)
+      go false false z = apart (cc)
 
-      go : (a : Bool) → passesAs signature (checked board) ≡ a → (b : Bool) → passesAs signature (checked built-in) ≡ b → passesAs signature (checked board) ≡ true
-      go true qa b qb = qa
-      go false qa true qb = let z = sym (the-built-in signature board built-in qa qb) ∙ two in apart (cc)
-      go false qa false qb = let z = sym (neither-one signature board built-in qa qb) ∙ two in apart (cc)
-
-  built-in-passes : chosen signature board built-in ≡ BuiltIn → passesAs signature (checked built-in) ≡ true
-  built-in-passes e = go (passesAs signature (checked board)) refl (passesAs signature (checked built-in)) refl
+  built-in-passes : chosen signature board built-in ≡ BuiltIn → in-built ≡ true
+  built-in-passes e = go on-board in-built (of-the-two (kindOf signature) BuiltIn (λ r z. apart (cc)) e)
     where
-      two : between signature board built-in ≡ BuiltIn
-      two = of-the-two (kindOf signature) BuiltIn (λ r z. apart (cc)) e
-
-      go : (a : Bool) → passesAs signature (checked board) ≡ a → (b : Bool) → passesAs signature (checked built-in) ≡ b → passesAs signature (checked built-in) ≡ true
-      go true qa b qb = let z = sym (the-board signature board built-in qa) ∙ two in apart (cc)
-      go false qa true qb = qb
-      go false qa false qb = let z = sym (neither-one signature board built-in qa qb) ∙ two in apart (cc)
+      go : (a b : Bool) → cond a Board (cond b BuiltIn (NotChosen Neither)) ≡ BuiltIn → b ≡ true
+      go true b z = apart (cc)
+      go false true z = refl
+      go false false z = apart (cc)
 
 pub chooses : Chooses
 chooses signature board built-in = (
   λ unknown. ask unknown,
   λ kind known. (
-    λ b. ask known ∙ the-board signature board built-in b,
-    λ b i. ask known ∙ the-built-in signature board built-in b i,
-    λ b i. ask known ∙ neither-one signature board built-in b i,
+    λ b. ask known ∙ between-tested signature board built-in b refl,
+    λ b i. ask known ∙ between-tested signature board built-in b i,
+    λ b i. ask known ∙ between-tested signature board built-in b i,
   ),
 )
   where

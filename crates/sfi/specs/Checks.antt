@@ -37,6 +37,10 @@ headerSize = 24
 abbrev pub lengthMax : ℕ
 lengthMax = 65536
 
+-- "WAKE has exactly one entry"
+abbrev pub wakeLength : ℕ
+wakeLength = 32
+
 -- the words of the header; OEMID, at 10, and OEM Table ID, at 16, are only summed
 abbrev pub signatureOf : List ℕ → ℕ
 signatureOf t = word 4 t
@@ -47,44 +51,78 @@ lengthOf t = word 4 (drop 4 t)
 abbrev pub revisionOf : List ℕ → ℕ
 revisionOf t = word 1 (drop 8 t)
 
--- "All Length bytes sum to 0 modulo 256"
-abbrev pub summedPart : List ℕ → List ℕ
-summedPart t = take (lengthOf t) t
+-- "slice under 24 bytes, Length under 24, over 65,536 or past the slice"
+abbrev pub shortSlice : ℕ → Bool
+shortSlice size = ltb size headerSize
 
--- 40: "slice under 24 bytes, Length under 24, over 65,536 or past the slice"
+abbrev pub underHeader : ℕ → Bool
+underHeader total = ltb total headerSize
+
+abbrev pub overMost : ℕ → Bool
+overMost total = ltb lengthMax total
+
+abbrev pub pastSlice : ℕ → ℕ → Bool
+pastSlice size total = ltb size total
+
+-- 40: one of these four
 unfoldable pub badLength : ℕ → ℕ → Bool
 badLength size total =
-    ltb size headerSize
-    || (ltb total headerSize
-    || (ltb lengthMax total || ltb size total))
+    shortSlice size
+    || (underHeader total
+    || (overMost total
+    || pastSlice size total))
 
 -- 44: "Revision is not the listed one"
 abbrev pub wrongRevision : Kind → ℕ → Bool
 wrongRevision kind revision = not (eqb revision (kind .revision))
 
--- 43: "Length − 24 no multiple of the entry size, or WAKE not 32"
-unfoldable pub badEntries : Kind → ℕ → Bool
-badEntries kind total =
-    not (eqb ((total - headerSize) % kind .entry) 0)
-    || (eqb (kind .signature) (wake .signature) && not (eqb total 32))
+-- "Length − 24 no multiple of the entry size"
+abbrev pub uneven : Kind → ℕ → Bool
+uneven kind total = not (eqb ((total - headerSize) % kind .entry) 0)
 
--- 44, 43 and 41, of a table of that kind
+-- "or WAKE not 32"
+abbrev pub isWake : Kind → Bool
+isWake kind = eqb (kind .signature) (wake .signature)
+
+abbrev pub notOneEntry : ℕ → Bool
+notOneEntry total = not (eqb total wakeLength)
+
+-- 43: one of these two
+unfoldable pub badEntries : Kind → ℕ → Bool
+badEntries kind total = uneven kind total || (isWake kind && notOneEntry total)
+
+-- 44 and 43, of a table of that kind
 unfoldable pub judged : Kind → List ℕ → Checked
-judged kind t =
-    cond (wrongRevision kind (revisionOf t)) (Failed WrongRevision)
-    (cond (badEntries kind (lengthOf t)) (Failed BadEntries)
-    (cond (not (eqb (sum 1 (summedPart t)) 0)) (Failed WrongSum)
-    (Passed (record { kind = kind; length = lengthOf t }))))
+judged kind header =
+    cond (wrongRevision kind (revisionOf header)) (Failed WrongRevision)
+    (cond (badEntries kind (lengthOf header)) (Failed BadEntries)
+    (Passed (record { kind = kind; length = lengthOf header })))
 
 abbrev pub judgedAs : Known → List ℕ → Checked
-judgedAs (Is kind) t = judged kind t
-judgedAs Unknown t = Failed UnknownSignature
+judgedAs (Is kind) header = judged kind header
+judgedAs Unknown header = Failed UnknownSignature
 
--- what the check of a table answers: its kind, and its Length
+-- 40, 42, 44 and 43: what the slice's size and its first 24 bytes tell (`header-alone`)
+unfoldable pub headerChecked : ℕ → List ℕ → Checked
+headerChecked size header =
+    cond (badLength size (lengthOf header)) (Failed BadLength)
+    (judgedAs (kindOf (signatureOf header)) header)
+
+-- "All Length bytes sum to 0 modulo 256"
+abbrev pub summedPart : Table → List ℕ → List ℕ
+summedPart table t = take (table .length) t
+
+-- 41: "sum"
+abbrev pub wrongSum : List ℕ → Bool
+wrongSum part = not (eqb (sum 1 part) 0)
+
+abbrev pub summed : Checked → List ℕ → Checked
+summed (Failed reason) t = Failed reason
+summed (Passed table) t = cond (wrongSum (summedPart table t)) (Failed WrongSum) (Passed table)
+
+-- what the check of a table answers, the header first and then the sum: its kind, and its Length
 unfoldable pub checked : List ℕ → Checked
-checked t =
-    cond (badLength (length t) (lengthOf t)) (Failed BadLength)
-    (judgedAs (kindOf (signatureOf t)) t)
+checked t = summed (headerChecked (length t) t) t
 
 -- how many entries a table has, and where each stands
 abbrev pub entriesOf : Table → ℕ

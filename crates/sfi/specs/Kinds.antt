@@ -18,6 +18,7 @@ cpus = record { signature = 0x53555043; entry = 4; revision = 1 }
 abbrev pub apic : Kind
 apic = record { signature = 0x43495041; entry = 8; revision = 1 }
 
+-- "MMAP entries are packed: u32 type, then four u64": 36 = 4 + 4 × 8, with no padding
 abbrev pub mmap : Kind
 mmap = record { signature = 0x50414D4D; entry = 36; revision = 1 }
 

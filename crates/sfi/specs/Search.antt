@@ -18,13 +18,14 @@ memorySize = 131072
 abbrev pub step : ℕ
 step = 16
 
+-- so there are 8,192 places
 abbrev pub tries : ℕ
 tries = 8192
 
 abbrev pub pageSize : ℕ
 pageSize = 4096
 
--- "stays inside one 4,096-byte page"
+-- "stays inside one 4,096-byte page": 0xE0000 is a multiple of 4,096, so pages by offset are pages by address
 abbrev pub inPage : ℕ → ℕ → Bool
 inPage at total = leb (at % pageSize + total) pageSize
 

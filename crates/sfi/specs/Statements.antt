@@ -9,7 +9,7 @@ use lib.ListN.{length, take, drop}
 use Rattle.le.specs.Word.{word, bytes}
 use Rattle.le.specs.Sum.{sum, checksumOf}
 use Rattle.sfi.specs.Kinds.{syst, cpus, apic, mmap, freq, mrtc, devs, gpio, mtmr, wake, kindOf}
-use Rattle.sfi.specs.Checks.{headerSize, lengthOf, checked, entryOf, passesAs}
+use Rattle.sfi.specs.Checks.{headerSize, lengthOf, headerChecked, checked, entryOf, passesAs}
 use Rattle.sfi.specs.Search.{isHit, located}
 use Rattle.sfi.specs.Choice.{chosen, partOf}
 use Rattle.sfi.specs.declared.kind.Kind.{Kind}
@@ -71,6 +71,10 @@ pub record Passing (t : List ℕ) (table : Table) : Type 0 where
 
 abbrev pub PassesOnly : Type 0
 PassesOnly = (t : List ℕ) (table : Table) → checked t ≡ Passed table → Passing t table
+
+-- `header-alone`. The header's check looks at no byte behind the first 24.
+abbrev pub HeaderAlone : Type 0
+HeaderAlone = (size n : ℕ) (t : List ℕ) → 24 ≤ n → headerChecked size (take n t) ≡ headerChecked size t
 
 -- `hit-is`, `is-hit`. A hit is SYST that passes, with its first and its last byte in the same page of 4,096 bytes.
 pub record Hit (memory : List ℕ) (offset : ℕ) : Type 0 where

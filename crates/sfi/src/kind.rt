@@ -1,6 +1,12 @@
 // The ten kinds of tables. A signature is handed in and out as the little-endian word of its four letters.
+use crate::Checked;
+use crate::Reason;
+use crate::Table;
+use crate::length_of;
 ghost use mathlib.Core.Path.{_≡_};
+ghost use Prim.Native.Nat.{_≤_, _<_};
 ghost use Rattle.sfi.specs.Kinds as Kinds;
+ghost use Rattle.sfi.specs.Checks.{headerSize, lengthOf, wrongRevision, badEntries, judged};
 
 // A kind of table.
 pub struct Kind {
@@ -66,6 +72,7 @@ impl Kind {
 
     pub const MMAP: u32 = 0x5041_4D4D;
 
+    // 4 + 4 × 8: the entries are packed, with no padding.
     pub const MMAP_ENTRY_SIZE: usize = 36;
 
     pub const MMAP_REVISION: u8 = 1;
@@ -211,5 +218,41 @@ impl Kind {
             return Known::Is(Self::wake());
         }
         Known::Unknown
+    }
+
+    // Whether a table of this kind with that Revision is refused.
+    fn has_other_revision(self, revision: u8) -> bool
+        ensures { λ r. ⌜ r ≡ wrongRevision self revision ⌝ }
+    {
+        revision != self.revision
+    }
+
+    // Whether a Length is not that of whole entries of this kind, or of other than one for WAKE.
+    fn has_bad_entries(self, length: usize) -> bool
+        requires { ⌜ (0 < self .entry) × (headerSize ≤ length) ⌝ }
+        ensures { λ r. ⌜ r ≡ badEntries self length ⌝ }
+    {
+        if (length - Table::HEADER) % self.entry != 0 {
+            return true;
+        }
+        if self.signature != Self::WAKE {
+            return false;
+        }
+        length != Table::WAKE_LENGTH
+    }
+
+    // 44 and 43, of a table of this kind.
+    pub(crate) fn judge(self, header: &[u8]) -> Checked
+        requires { ⌜ (0 < self .entry) × (headerSize ≤ lengthOf (now header)) ⌝ }
+        ensures { λ r. ⌜ r ≡ judged self (now (header .entry)) ⌝ }
+    {
+        if self.has_other_revision(le::word::u8_at(header, 8)) {
+            return Checked::Refused(Reason::WrongRevision);
+        }
+        let length = length_of(header);
+        if self.has_bad_entries(length) {
+            return Checked::Refused(Reason::BadEntries);
+        }
+        Checked::Passed(Table { kind: self, length })
     }
 }

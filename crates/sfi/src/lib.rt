@@ -9,7 +9,7 @@ use kind::Known;
 ghost use mathlib.Core.Path.{_≡_};
 ghost use Prim.Native.Nat.{_≤_, _<_};
 ghost use Rattle.sfi.specs.declared.Checked.the-variants.{Passed};
-ghost use Rattle.sfi.specs.Checks.{headerSize, lengthOf, numberOf, badLength, wrongRevision, badEntries, judged, checked, entryIn, entryOf};
+ghost use Rattle.sfi.specs.Checks.{headerSize, lengthOf, numberOf, badLength, headerChecked, checked, entryIn, entryOf};
 
 // A table that passes its checks: its kind, and its Length.
 pub struct Table {
@@ -69,13 +69,22 @@ impl Reason {
     }
 }
 
-// Whether a Length is not legal in a slice of that size.
-fn is_bad_length(size: usize, length: usize) -> bool
-    ensures { λ r. ⌜ r ≡ badLength size length ⌝ }
+// Length, as it stands in a table, with no check of it: a slice that is too short reads as if zeros followed.
+pub fn length_of(table: &[u8]) -> usize
+    ensures { λ r. ⌜ r ≡ lengthOf (now (table .entry)) ⌝ }
+{
+    le::word::u32_at(table, 4) as usize
+}
+
+// Whether Length is not legal in a slice of that size. The size is tested before anything is read, so that in
+// a slice of that size each read behind it is one load.
+fn is_bad_length(size: usize, header: &[u8]) -> bool
+    ensures { λ r. ⌜ r ≡ badLength size (lengthOf (now (header .entry))) ⌝ }
 {
     if size < Table::HEADER {
         return true;
     }
+    let length = length_of(header);
     if length < Table::HEADER {
         return true;
     }
@@ -85,54 +94,6 @@ fn is_bad_length(size: usize, length: usize) -> bool
     size < length
 }
 
-// Length, as it stands in a table, with no check of it: a slice that is too short reads as if zeros followed.
-pub fn length_of(table: &[u8]) -> usize
-    ensures { λ r. ⌜ r ≡ lengthOf (now (table .entry)) ⌝ }
-{
-    le::word::u32_at(table, 4) as usize
-}
-
-impl Kind {
-    // Whether a table of this kind with that Revision is refused.
-    fn has_other_revision(self, revision: u8) -> bool
-        ensures { λ r. ⌜ r ≡ wrongRevision self revision ⌝ }
-    {
-        revision != self.revision
-    }
-
-    // Whether a Length is not that of whole entries of this kind, or of other than one for WAKE.
-    fn has_bad_entries(self, length: usize) -> bool
-        requires { ⌜ (0 < self .entry) × (headerSize ≤ length) ⌝ }
-        ensures { λ r. ⌜ r ≡ badEntries self length ⌝ }
-    {
-        if (length - Table::HEADER) % self.entry != 0 {
-            return true;
-        }
-        if self.signature != Self::WAKE {
-            return false;
-        }
-        length != Table::WAKE_LENGTH
-    }
-
-    // 44, 43 and 41, of a table of this kind.
-    fn judge(self, table: &[u8]) -> Checked
-        requires { ⌜ (0 < self .entry) × (headerSize ≤ lengthOf (now table)) ⌝ }
-        ensures { λ r. ⌜ r ≡ judged self (now (table .entry)) ⌝ }
-    {
-        if self.has_other_revision(le::word::u8_at(table, 8)) {
-            return Checked::Refused(Reason::WrongRevision);
-        }
-        let length = length_of(table);
-        if self.has_bad_entries(length) {
-            return Checked::Refused(Reason::BadEntries);
-        }
-        if le::sum::sum8(le::head(table, length)) != 0 {
-            return Checked::Refused(Reason::WrongSum);
-        }
-        Checked::Passed(Table { kind: self, length })
-    }
-}
-
 impl Table {
     pub const HEADER: usize = 24;
     // The longest table.
@@ -140,16 +101,31 @@ impl Table {
     // WAKE has exactly one entry.
     pub const WAKE_LENGTH: usize = 32;
 
+    // 40, 42, 44 and 43: what a slice's size and its first 24 bytes tell.
+    fn check_header(size: usize, header: &[u8]) -> Checked
+        ensures { λ r. ⌜ r ≡ headerChecked size (now (header .entry)) ⌝ }
+    {
+        if is_bad_length(size, header) {
+            return Checked::Refused(Reason::BadLength);
+        }
+        match Kind::of(le::word::u32_at(header, 0)) {
+            Known::Unknown => Checked::Refused(Reason::UnknownSignature),
+            Known::Is(kind) => kind.judge(header),
+        }
+    }
+
     // The table at a slice's start, or the first reason to refuse it. Bytes behind Length don't count.
     pub fn check(table: &[u8]) -> Checked
         ensures { λ r. ⌜ r ≡ checked (now (table .entry)) ⌝ }
     {
-        if is_bad_length(table.len(), length_of(table)) {
-            return Checked::Refused(Reason::BadLength);
-        }
-        match Kind::of(le::word::u32_at(table, 0)) {
-            Known::Unknown => Checked::Refused(Reason::UnknownSignature),
-            Known::Is(kind) => kind.judge(table),
+        match Self::check_header(table.len(), table) {
+            Checked::Refused(reason) => Checked::Refused(reason),
+            Checked::Passed(t) => {
+                if le::sum::sum8(le::head(table, t.length)) != 0 {
+                    return Checked::Refused(Reason::WrongSum);
+                }
+                Checked::Passed(t)
+            }
         }
     }
 

@@ -11,7 +11,7 @@ use Rattle.le.proofs.Tests.{apart, neither, past, either}
 use Rattle.le.proofs.Comparing.{same-true}
 use Rattle.region.specs.Region.{outside}
 use Rattle.region.proofs.Answers.{not-outside}
-use Rattle.ubios.specs.Layout.{rootHeader, nameOf, totalOf, remainingOf, usedOf, summedPart, rootName, countOf}
+use Rattle.ubios.specs.Layout.{rootHeader, totalMax, countMax, nameOf, totalOf, remainingOf, usedOf, summedPart, rootName, countOf}
 use Rattle.ubios.specs.Checks.{numberOf, tableAt, misaligned, underHeader, overMost, pastRegion, overRest, badSize, wrongVersion, wrongSum, judged, checked, notRoot, manySlots, pastUsed, badCount, rootJudged, rootAfter, rootChecked}
 use Rattle.ubios.specs.Statements.{Sized, PassesOnly, Rooted, RootPassesOnly, RootRefusals}
 use Rattle.ubios.specs.declared.Table.{Table}
@@ -37,7 +37,7 @@ module _ (header size total remaining : ℕ) where
       let p = neither (underHeader header total) _ e in
       let q = neither (overMost total) _ (p .1) in
       let r = neither (pastRegion size total) _ (q .1) in
-      record { holds = ltb-false _ _ (p .0); most = ltb-false _ _ (q .0); inside = ltb-false _ _ (r .0); left = ltb-false _ _ (r .1) }
+      record { holds = ltb-false _ _ (p .0); most = omega (arith, ltb-false totalMax total (q .0)); inside = ltb-false _ _ (r .0); left = ltb-false _ _ (r .1) }
 
 -- 32, 33, 34
 pub judged-tested : (header at : ℕ) (t : List ℕ) {a b c : Bool} → badSize header (length t) (totalOf t) (remainingOf t) ≡ a → wrongVersion t ≡ b → wrongSum (summedPart t) ≡ c
@@ -116,7 +116,7 @@ root-passes-only region base address root e = go (checked rootHeader region base
         (record {
           table = passes-only rootHeader region base address table p;
           named = same-true (nameOf t) rootName (not-false _ (n .0));
-          few = ltb-false _ _ (slots .0);
+          few = omega (arith, ltb-false countMax (countOf t) (slots .0));
           room = ltb-false _ _ (slots .1);
           count = refl;
         })

@@ -1,22 +1,21 @@
 -- `sfi::search::find_syst` meets its contract. The loop's invariant: the places passed over are no hits, so the first hit of the rest is the first of all.
 -- Assumes nothing.
-use Prim.Native.Nat.{_*_, _-_, _≤_}
-use mathlib.Core.Path.{_≡_, refl, sym, ap, _∙_}
-use Rattle.sfi.specs.Search.{step, tries, places, firstHit}
-use Rattle.sfi.proofs.Searching.{places-from, no-places, none-left, hit-here, further-on, bad-memory, searched}
+use Prim.Native.Nat.{_-_, _≤_}
+use mathlib.Core.Path.{_≡_, refl, sym, _∙_}
+use Rattle.sfi.specs.Search.{tries}
+use Rattle.sfi.proofs.Searching.{from, over, at, end, bad-memory, searched}
 use borrow.Author.Needs.{needs}
 use Rattle.sfi.proofs.search.find_syst.Statement.{statement}
 use Rattle.sfi.proofs.search.find_syst.Tie as tie
 
 abbrev Inv-loop : tie.InvT-loop
-Inv-loop memory i₀ i =
-    (i ≤ tries) × (firstHit memory (places (tries - i) (step * i)) ≡ firstHit memory (places tries 0))
+Inv-loop memory i₀ i = (i ≤ tries) × (from memory i ≡ from memory 0)
 
 abbrev μ-loop : tie.MeasureT-loop
 μ-loop memory i₀ i = tries - i
 
 returns : tie.Need-returns Inv-loop μ-loop
-returns c = sym (bad-memory (c .before .before .args .memory .now) (c .if1 .taken))
+returns c = sym (bad-memory _ (c .if1 .taken))
 
 loop-holds : tie.Need-loop-holds Inv-loop μ-loop
 loop-holds c = (search needs, refl)
@@ -33,13 +32,7 @@ mul-t9 c = search needs
 returns-2 : tie.Need-returns-2 Inv-loop μ-loop
 returns-2 c =
     let at-loop = c .before .before .before in
-    let memory = at-loop .before .before .before .args .memory .now in
-    let i = at-loop .loop .i in
-    sym
-    (searched memory (at-loop .before .if1 .left)
-    ∙ sym (at-loop .loop .inv .1)
-    ∙ ap (firstHit memory) (places-from i (search needs))
-    ∙ hit-here memory (step * i) _ (sym (c .before .is-hit .ensures) ∙ c .if2 .taken))
+    sym (searched _ (at-loop .before .if1 .left) ∙ sym (at-loop .loop .inv .1) ∙ at _ _ (search needs) (sym (c .before .is-hit .ensures) ∙ c .if2 .taken))
 
 add-i : tie.Need-add-i Inv-loop μ-loop
 add-i c = search needs
@@ -49,23 +42,12 @@ loop-less c = search needs
 
 loop-again : tie.Need-loop-again Inv-loop μ-loop
 loop-again c =
-    let at-loop = c .before .before .before in
-    let memory = at-loop .before .before .before .args .memory .now in
-    let i = at-loop .loop .i in (
-      search needs,
-      sym (ap (firstHit memory) (places-from i (search needs)) ∙ further-on memory (step * i) _ (sym (c .before .is-hit .ensures) ∙ c .if2 .left)) ∙ at-loop .loop .inv .1,
-    )
+    (search needs, sym (over _ _ (search needs) (sym (c .before .is-hit .ensures) ∙ c .if2 .left)) ∙ c .before .before .before .loop .inv .1)
 
 returns-3 : tie.Need-returns-3 Inv-loop μ-loop
 returns-3 c =
     let at-loop = c .before in
-    let memory = at-loop .before .before .before .args .memory .now in
-    let i = at-loop .loop .i in
-    sym
-    (searched memory (at-loop .before .if1 .left)
-    ∙ sym (at-loop .loop .inv .1)
-    ∙ ap (firstHit memory) (no-places i (step * i) (search needs))
-    ∙ none-left memory)
+    sym (searched _ (at-loop .before .if1 .left) ∙ sym (at-loop .loop .inv .1) ∙ end _ _ (search needs))
 
 pub find-syst-spec : {M : Type 1} → statement M
 find-syst-spec =

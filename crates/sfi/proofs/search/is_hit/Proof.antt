@@ -33,9 +33,7 @@ answer : (c : tie.After-check) → c .check .result ≡ checked (table (c .befor
 answer c = c .check .ensures ∙ ap checked (c .before .before .before .before .before .tail .ensures)
 
 returns : tie.Need-returns
-returns c =
-    let a = start (c .before .before) .args in
-    sym (other-signature (a .memory .now) (a .at) (λ e. c .if1 .taken (signature (c .before) ∙ e)))
+returns c = sym (other-signature _ _ (λ e. c .if1 .taken (signature (c .before) ∙ e)))
 
 sub-if2 : tie.Need-sub-if2
 sub-if2 c = search needs
@@ -44,9 +42,7 @@ length-of-requires : tie.Need-length-of-requires
 length-of-requires c κs = search needs
 
 returns-2 : tie.Need-returns-2
-returns-2 c =
-    let a = start (c .before .before .before .before) .args in
-    sym (past-page (a .memory .now) (a .at) (rw (← total (c .before)) (c .if2 .taken)))
+returns-2 c = sym (past-page _ _ (rw (← total (c .before)) (c .if2 .taken)))
 
 check-requires : tie.Need-check-requires
 check-requires c κs = search needs
@@ -61,16 +57,13 @@ returns-3 : tie.Need-returns-3
 returns-3 c =
     let at-page = c .before .before .before in
     let at-signature = at-page .before .before in
-    let a = start (at-signature .before .before) .args in
     sym
-    (hit (a .memory .now) (a .at) _ (sym (answer (c .before .before)) ∙ c .enum-told .given .1)
+    (hit _ _ _ (sym (answer (c .before .before)) ∙ c .enum-told .given .1)
     (sym (signature (at-signature .before)) ∙ at-signature .if1 .left)
     (rw (← total (at-page .before)) (at-page .if2 .left)))
 
 returns-4 : tie.Need-returns-4
-returns-4 c =
-    let a = start (c .before .before .before .before .before .before .before) .args in
-    sym (fails (a .memory .now) (a .at) _ (sym (answer (c .before .before)) ∙ c .enum-told2 .given .1))
+returns-4 c = sym (fails _ _ _ (sym (answer (c .before .before)) ∙ c .enum-told2 .given .1))
 
 pub is-hit-spec : {M : Type 1} → statement M
 is-hit-spec =

@@ -1,7 +1,9 @@
 -- `sfi::kind::Kind::has_bad_entries` meets its contract: whole entries, and one for WAKE.
 -- Assumes nothing.
-use mathlib.Core.Path.{sym}
-use Rattle.sfi.proofs.Answers.{uneven, not-wake, wake-length}
+use mathlib.Core.Bool.{not}
+use mathlib.Core.Path.{refl, sym, ap}
+use borrow.Author.Tests.{eq-eqb, ne-eqb}
+use Rattle.sfi.proofs.Answers.{entries-tested}
 use borrow.Author.Needs.{needs}
 use Rattle.sfi.proofs.kind.Kind.has_bad_entries.Statement.{statement}
 use Rattle.sfi.proofs.kind.Kind.has_bad_entries.Tie as tie
@@ -13,15 +15,13 @@ rem-if1 : tie.Need-rem-if1
 rem-if1 c = search needs
 
 returns : tie.Need-returns
-returns c = let a = c .before .before .args in sym (uneven (a .self) (a .length) (c .if1 .taken))
+returns c = sym (entries-tested _ _ (ap not (ne-eqb _ _ (c .if1 .taken))) refl refl)
 
 returns-2 : tie.Need-returns-2
-returns-2 c =
-    let a = c .before .before .before .before .args in sym (not-wake (a .self) (a .length) (c .before .before .if1 .left) (c .if2 .taken))
+returns-2 c = sym (entries-tested _ _ (ap not (eq-eqb _ _ (c .before .before .if1 .left))) (ne-eqb _ _ (c .if2 .taken)) refl)
 
 returns-3 : tie.Need-returns-3
-returns-3 c =
-    let a = c .before .before .before .before .args in sym (wake-length (a .self) (a .length) (c .before .before .if1 .left) (c .if2 .left))
+returns-3 c = sym (entries-tested _ _ (ap not (eq-eqb _ _ (c .before .before .if1 .left))) (eq-eqb _ _ (c .if2 .left)) refl)
 
 pub has-bad-entries-spec : {M : Type 1} → statement M
 has-bad-entries-spec = tie.close (tie.spec sub-if1 rem-if1 returns returns-2 returns-3)
