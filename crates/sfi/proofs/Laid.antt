@@ -45,10 +45,7 @@ module _ (kind : Kind) (oem entries rest : List ℕ)
   facts = listed (kind .signature) kind is
 
   here : table ≡ bytes 4 (kind .signature) ++ (bytes 4 total ++ (bytes 1 (kind .revision) ++ behind))
-  here =
-      append-assoc head (bytes 1 (checksumOf 1 head (oem ++ entries)) ++ (oem ++ entries)) rest
-      ∙ append-assoc (bytes 4 (kind .signature)) (bytes 4 total ++ bytes 1 (kind .revision)) behind
-      ∙ ap (λ (l : List ℕ). bytes 4 (kind .signature) ++ l) (append-assoc (bytes 4 total) (bytes 1 (kind .revision)) behind)
+  here = simp append-assoc
 
   signature-is : signatureOf table ≡ kind .signature
   signature-is = ap (word 4) here ∙ word-bytes 4 (kind .signature) _ (facts .word)

@@ -109,42 +109,27 @@ one-more memory n none e j h = go (ltb j n) refl
 record FoundAt (memory : List ℕ) (offset : ℕ) : Type 0 where
   i : ℕ
   place : offset ≡ step * i
-  below : i < tries
   hit-there : isHit memory (step * i) ≡ true
   none-before : NoneTo memory i
 
-found-from : (memory : List ℕ) (offset fuel i : ℕ) → tries ≤ i + fuel → NoneTo memory i → from memory i ≡ At offset → FoundAt memory offset
-found-from memory offset zero i enough none e = let z = sym (end memory i (omega arith)) ∙ e in apart (cc)
-found-from memory offset (suc fuel) i enough none e = by-end (ltb i tries) refl (found-from memory offset fuel (i + 1) (omega arith))
+abbrev Ends : List ℕ → Found → Type 0
+Ends memory (At offset) = FoundAt memory offset
+Ends memory (Refused reason) = NoneTo memory tries
+
+ends : (memory : List ℕ) (fuel i : ℕ) → tries ≤ i + fuel → NoneTo memory i → Ends memory (from memory i)
+ends memory zero i enough none = rw (end memory i (omega arith)) (λ j h. none j (omega arith))
+ends memory (suc fuel) i enough none = by-end (ltb i tries) refl (ends memory fuel (i + 1) (omega arith))
   where
-    by-hit : i < tries → (t : Bool) → isHit memory (step * i) ≡ t → (NoneTo memory (i + 1) → from memory (i + 1) ≡ At offset → FoundAt memory offset) → FoundAt memory offset
-    by-hit h true q later =
-        let z = sym (at memory i h q) ∙ e in
-        let here : offset ≡ step * i = cc in
-        record { i = i; place = here; below = h; hit-there = q; none-before = none }
-    by-hit h false q later = later (one-more memory i none q) (sym (over memory i h q) ∙ e)
+    by-hit : i < tries → (t : Bool) → isHit memory (step * i) ≡ t → (NoneTo memory (i + 1) → Ends memory (from memory (i + 1))) → Ends memory (from memory i)
+    by-hit h true q later = rw (at memory i h q) (record { i = i; place = refl; hit-there = q; none-before = none })
+    by-hit h false q later = rw (over memory i h q) (later (one-more memory i none q))
 
-    by-end : (t : Bool) → ltb i tries ≡ t → (NoneTo memory (i + 1) → from memory (i + 1) ≡ At offset → FoundAt memory offset) → FoundAt memory offset
+    by-end : (t : Bool) → ltb i tries ≡ t → (NoneTo memory (i + 1) → Ends memory (from memory (i + 1))) → Ends memory (from memory i)
     by-end true q later = by-hit (ltb-true i tries q) (isHit memory (step * i)) refl later
-    by-end false q later = let z = sym (end memory i (ltb-false i tries q)) ∙ e in apart (cc)
-
-none-from : (memory : List ℕ) (fuel i : ℕ) → tries ≤ i + fuel → NoneTo memory i → from memory i ≡ Refused NoSyst → NoneTo memory tries
-none-from memory zero i enough none e = λ j h. none j (omega arith)
-none-from memory (suc fuel) i enough none e = by-end (ltb i tries) refl (none-from memory fuel (i + 1) (omega arith))
-  where
-    by-hit : i < tries → (t : Bool) → isHit memory (step * i) ≡ t → (NoneTo memory (i + 1) → from memory (i + 1) ≡ Refused NoSyst → NoneTo memory tries) → NoneTo memory tries
-    by-hit h true q later = let z = sym (at memory i h q) ∙ e in apart (cc)
-    by-hit h false q later = later (one-more memory i none q) (sym (over memory i h q) ∙ e)
-
-    by-end : (t : Bool) → ltb i tries ≡ t → (NoneTo memory (i + 1) → from memory (i + 1) ≡ Refused NoSyst → NoneTo memory tries) → NoneTo memory tries
-    by-end true q later = by-hit (ltb-true i tries q) (isHit memory (step * i)) refl later
-    by-end false q later = λ j h. none j (omega (arith, ltb-false i tries q))
+    by-end false q later = rw (end memory i (ltb-false i tries q)) (λ j h. none j (omega (arith, ltb-false i tries q)))
 
 -- memory that is searched has that size
 module _ (memory : List ℕ) where
-  no-place : NoneTo memory 0
-  no-place j h = absurd (omega arith)
-
   of-size : (f : Found) → located memory ≡ f → (f ≡ Refused BadMemory → ⊥) → length memory ≡ memorySize
   of-size f e other = go (eqb (length memory) memorySize) refl
     where
@@ -152,8 +137,9 @@ module _ (memory : List ℕ) where
       go true q = eqb-true (length memory) memorySize q
       go false q = absurd (other (sym e ∙ bad-memory memory (eqb-false (length memory) memorySize q)))
 
-  from-start : (f : Found) → located memory ≡ f → (f ≡ Refused BadMemory → ⊥) → from memory 0 ≡ f
-  from-start f e other = sym (searched memory (of-size f e other)) ∙ e
+  from-start : (f : Found) → located memory ≡ f → (f ≡ Refused BadMemory → ⊥) → Ends memory f
+  from-start f e other =
+      subst (Ends memory) (sym (searched memory (of-size f e other)) ∙ e) (ends memory tries 0 (omega arith) (λ j h. absurd (omega arith)))
 
   -- places that are told by their offset, and by their number
   by-number : (n : ℕ) → ((o : ℕ) → o < step * n → o % 16 ≡ 0 → isHit memory o ≡ false) → NoneTo memory n
@@ -166,7 +152,7 @@ module _ (memory : List ℕ) where
 
 pub found-lowest : FoundLowest
 found-lowest memory offset e =
-    let f = found-from memory offset tries 0 (omega arith) (no-place memory) (from-start memory (At offset) e (λ z. apart (cc))) in
+    let f = from-start memory (At offset) e (λ z. apart (cc)) in
     record {
       sixteenth = omega (arith, f .place);
       hit = rw (f .place) (f .hit-there);
@@ -198,7 +184,7 @@ no-hit memory e o sixteenth = go (ltb o 131072) refl
     size = of-size memory (Refused NoSyst) e (λ z. apart (cc))
 
     none : NoneTo memory tries
-    none = none-from memory tries 0 (omega arith) (no-place memory) (from-start memory (Refused NoSyst) e (λ z. apart (cc)))
+    none = from-start memory (Refused NoSyst) e (λ z. apart (cc))
 
     go : (t : Bool) → ltb o 131072 ≡ t → isHit memory o ≡ false
     go true q = by-offset memory tries none o (omega (arith, ltb-true o 131072 q)) sixteenth

@@ -32,11 +32,7 @@ module _ (field : List ℕ) (total : ℕ) (reserved : List ℕ) (remaining : ℕ
   t = headOf field total reserved remaining ++ rest
 
   behind-name : drop 16 t ≡ bytes 4 total ++ ((version ∷ reserved) ++ (bytes 4 remaining ++ rest))
-  behind-name =
-      ap (drop 16) (append-assoc field (bytes 4 total ++ ((version ∷ reserved) ++ bytes 4 remaining)) rest)
-      ∙ drop-at field ((bytes 4 total ++ ((version ∷ reserved) ++ bytes 4 remaining)) ++ rest) 16 named
-      ∙ append-assoc (bytes 4 total) ((version ∷ reserved) ++ bytes 4 remaining) rest
-      ∙ ap (λ (l : List ℕ). bytes 4 total ++ l) (append-assoc (version ∷ reserved) (bytes 4 remaining) rest)
+  behind-name = simp append-assoc (drop-at field _ 16 named)
 
   behind-total : drop 20 t ≡ (version ∷ reserved) ++ (bytes 4 remaining ++ rest)
   behind-total =
@@ -173,6 +169,9 @@ slots-length (a ∷ slots) =
     let more = slots-length slots in
     length-append (bytes 8 a) (slotBytes slots) ∙ ap₂ _+_ (length-bytes 8 a) more ∙ omega arith
 
+regroup : (a b c d : List ℕ) → (a ++ (b ++ c)) ++ d ≡ (a ++ b) ++ (c ++ d)
+regroup a b c d = simp append-assoc
+
 -- a root in memory
 module _ (base : ℕ) (front junk reserved : List ℕ) (remaining : ℕ) (six slots more rest : List ℕ)
     (six-bytes : length six ≡ 6)
@@ -209,8 +208,7 @@ module _ (base : ℕ) (front junk reserved : List ℕ) (remaining : ℕ) (six sl
   behind-head =
       let long : length (first ++ check) ≡ tableHeader =
       length-append first check ∙ ap₂ _+_ (head-length field _ reserved remaining [] (laid .named) (laid .three)) (length-bytes 4 (checksumOf 4 first body)) in
-      ap (drop tableHeader) (append-assoc first (check ++ body) rest ∙ ap (λ (l : List ℕ). first ++ l) (append-assoc check body rest) ∙ sym (append-assoc first check (body ++ rest)))
-      ∙ drop-at (first ++ check) (body ++ rest) tableHeader long
+      ap (drop tableHeader) (regroup first check body rest) ∙ drop-at (first ++ check) (body ++ rest) tableHeader long
 
   count-read : length slots ≡ countOf root
   count-read =
@@ -221,10 +219,7 @@ module _ (base : ℕ) (front junk reserved : List ℕ) (remaining : ℕ) (six sl
   behind-count : drop rootHeader root ≡ slotBytes slots ++ (more ++ rest)
   behind-count =
       let long : length (bytes 2 (length slots) ++ six) ≡ 8 = length-append (bytes 2 (length slots)) six ∙ ap₂ _+_ (length-bytes 2 (length slots)) six-bytes in
-      let parts : body ++ rest ≡ (bytes 2 (length slots) ++ six) ++ (slotBytes slots ++ (more ++ rest)) =
-      append-assoc (bytes 2 (length slots)) (six ++ (slotBytes slots ++ more)) rest
-      ∙ ap (λ (l : List ℕ). bytes 2 (length slots) ++ l) (append-assoc six (slotBytes slots ++ more) rest ∙ ap (λ (l : List ℕ). six ++ l) (append-assoc (slotBytes slots) more rest))
-      ∙ sym (append-assoc (bytes 2 (length slots)) six (slotBytes slots ++ (more ++ rest))) in
+      let parts : body ++ rest ≡ (bytes 2 (length slots) ++ six) ++ (slotBytes slots ++ (more ++ rest)) = simp append-assoc in
       sym (drop-drop 8 tableHeader root) ∙ ap (drop 8) (behind-head ∙ parts) ∙ drop-at (bytes 2 (length slots) ++ six) (slotBytes slots ++ (more ++ rest)) 8 long
 
   slots-read : slotsOf root ≡ slots

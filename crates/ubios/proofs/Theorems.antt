@@ -33,28 +33,35 @@ cons-tail e = cc
 only-inj : {b c : Body} → Only b ≡ Only c → b ≡ c
 only-inj e = cc
 
--- the hits among slots of which none leads there, and of which one does
+-- the hits among slots of which none leads there, among joined slots, and where one leads there
 module _ (region : List ℕ) (base : ℕ) (name : List ℕ) where
   none-hit : (k : ℕ) (slots : List ℕ) → NoneLeads region base name slots → hits region base name k slots ≡ []
   none-hit k [] h = no-slots region base name k
   none-hit k (a ∷ slots) h = passes-over region base name k a slots (h .0) ∙ none-hit (suc k) slots (h .1)
 
-  one-hit : (k : ℕ) (before : List ℕ) (a : ℕ) (after : List ℕ) → NoneLeads region base name before → leads region base name a ≡ true → NoneLeads region base name after
-      → hits region base name k (before ++ (a ∷ after)) ≡ bodyAt region base (k + length before) a ∷ []
-  one-hit k [] a after hb h ha =
-      let here : k ≡ k + 0 = omega arith in
-      meets region base name k a after h ∙ ap₂ (λ (i : ℕ) (l : List Body). bodyAt region base i a ∷ l) here (none-hit (suc k) after ha)
-  one-hit k (x ∷ before) a after hb h ha =
+  joined : (k : ℕ) (before after : List ℕ)
+      → hits region base name k (before ++ after) ≡ hits region base name k before ++ hits region base name (k + length before) after
+  joined k [] after = let here : k + 0 ≡ k = omega arith in rw (no-slots region base name k, here)
+  joined k (x ∷ before) after =
       let on : suc k + length before ≡ k + suc (length before) = omega arith in
-      passes-over region base name k x (before ++ (a ∷ after)) (hb .0)
-      ∙ one-hit (suc k) before a after (hb .1) h ha
-      ∙ ap (λ (i : ℕ). bodyAt region base i a ∷ []) on
+      go (leads region base name x) refl (rw on at (joined (suc k) before after))
+    where
+      go : (t : Bool) → leads region base name x ≡ t
+          → hits region base name (suc k) (before ++ after) ≡ hits region base name (suc k) before ++ hits region base name (k + suc (length before)) after
+          → hits region base name k (x ∷ (before ++ after)) ≡ hits region base name k (x ∷ before) ++ hits region base name (k + suc (length before)) after
+      go true q later = rw (meets region base name k x (before ++ after) q, meets region base name k x before q, later)
+      go false q later = rw (passes-over region base name k x (before ++ after) q, passes-over region base name k x before q) later
+
+  behind : (k : ℕ) (before : List ℕ) (a : ℕ) (after : List ℕ) → leads region base name a ≡ true
+      → hits region base name k (before ++ (a ∷ after))
+      ≡ hits region base name k before ++ (bodyAt region base (k + length before) a ∷ hits region base name (suc (k + length before)) after)
+  behind k before a after h = joined k before (a ∷ after) ∙ rw (meets region base name (k + length before) a after h)
 
   one-of-all : (before : List ℕ) (a : ℕ) (after : List ℕ) → NoneLeads region base name before → leads region base name a ≡ true → NoneLeads region base name after
       → lookedUp region base name (before ++ (a ∷ after)) ≡ Only (bodyAt region base (length before) a)
   one-of-all before a after hb h ha =
       let start : 0 + length before ≡ length before = omega arith in
-      ap answerOf (one-hit 0 before a after hb h ha ∙ ap (λ (i : ℕ). bodyAt region base i a ∷ []) start)
+      rw (behind 0 before a after h, none-hit 0 before hb, none-hit (suc (0 + length before)) after ha, start)
 
   -- and back: what the hits say of the slots
   none-lead : (k : ℕ) (slots : List ℕ) → hits region base name k slots ≡ [] → NoneLeads region base name slots
@@ -107,27 +114,6 @@ module _ (region : List ℕ) (base : ℕ) (name : List ℕ) where
             others = ap (λ (i : ℕ). hits region base name (suc i) (p .after)) (sym on) ∙ p .others;
             is = p .is ∙ ap (λ (i : ℕ). bodyAt region base i (p .address)) on;
           }
-
-  -- slots of which n hits come at least, with others before them, and behind one more that leads there
-  module _ (n : ℕ) (slots : List ℕ) (least : (k : ℕ) → n ≤ length (hits region base name k slots)) where
-    least-behind : (before : List ℕ) (k : ℕ) → n ≤ length (hits region base name k (before ++ slots))
-    least-behind [] k = least k
-    least-behind (x ∷ before) k = go (leads region base name x) refl (least-behind before (suc k))
-      where
-        go : (t : Bool) → leads region base name x ≡ t → n ≤ length (hits region base name (suc k) (before ++ slots))
-            → n ≤ length (hits region base name k (x ∷ (before ++ slots)))
-        go true q later = rw (meets region base name k x (before ++ slots) q) (omega arith)
-        go false q later = rw (passes-over region base name k x (before ++ slots) q) later
-
-    one-more : (a : ℕ) → leads region base name a ≡ true → (k : ℕ) → suc n ≤ length (hits region base name k (a ∷ slots))
-    one-more a q k = rw (meets region base name k a slots q) (omega (arith, least (suc k)))
-
-  two-hits : (before : List ℕ) (a : ℕ) (between : List ℕ) (b : ℕ) (after : List ℕ) → leads region base name a ≡ true → leads region base name b ≡ true
-      → 2 ≤ length (hits region base name 0 (before ++ (a ∷ (between ++ (b ∷ after)))))
-  two-hits before a between b after ha hb =
-      let one = one-more 0 after (λ k. omega arith) b hb in
-      let two = one-more 1 (between ++ (b ∷ after)) (least-behind 1 (b ∷ after) one between) a ha in
-      least-behind 2 (a ∷ (between ++ (b ∷ after))) two before 0
 
 -- the slots, and the hits among them
 abbrev slots : List ℕ → ℕ → ℕ → List ℕ
@@ -219,10 +205,11 @@ two-answer [] e = apart (cc)
 two-answer (b ∷ []) e = apart (cc)
 two-answer (b ∷ c ∷ l) e = record { first = b; second = c; more = l; all = refl }
 
-answer-two : (l : List Body) → 2 ≤ length l → answerOf l ≡ Refused TwoTables
-answer-two [] h = absurd (omega arith)
-answer-two (b ∷ []) h = absurd (omega arith)
-answer-two (b ∷ c ∷ l) h = refl
+answer-two : (before : List Body) (b : Body) (between : List Body) (c : Body) (after : List Body) → answerOf (before ++ (b ∷ (between ++ (c ∷ after)))) ≡ Refused TwoTables
+answer-two [] b [] c after = refl
+answer-two [] b (d ∷ between) c after = refl
+answer-two (d ∷ []) b between c after = refl
+answer-two (d ∷ e ∷ before) b between c after = refl
 
 pub found-two : FoundTwo
 found-two region base root name e =
@@ -245,8 +232,14 @@ found-two region base root name e =
 
 pub two-found : TwoFound
 two-found region base root name w two =
-    let many = two-hits region base name (two .before) (two .first) (two .between) (two .second) (two .after) (two .first-leads) (two .second-leads) in
-    by-slots region base root name w ∙ answer-two (met region base root name) (rw (two .slots) many)
+    let next = suc (0 + length (two .before)) in
+    by-slots region base root name w
+    ∙ rw (
+      two .slots,
+      behind region base name 0 (two .before) (two .first) (two .between ++ (two .second ∷ two .after)) (two .first-leads),
+      behind region base name next (two .between) (two .second) (two .after) (two .second-leads),
+    )
+    (answer-two (hits region base name 0 (two .before)) _ (hits region base name next (two .between)) _ _)
 
 -- slots of which none leads there, joined
 none-joined : (region : List ℕ) (base : ℕ) (name before after : List ℕ) → NoneLeads region base name before → NoneLeads region base name after → NoneLeads region base name (before ++ after)
