@@ -56,9 +56,9 @@ module _ (field : List ℕ) (total : ℕ) (reserved : List ℕ) (remaining : ℕ
   head-length = simp (length-append, length-bytes) (omega arith)
 
 -- a table in memory: what stands before it, and what behind it
-module _ (header base : ℕ) (front field reserved : List ℕ) (remaining : ℕ) (body rest : List ℕ)
+module _ (header : ℕ) (front field reserved : List ℕ) (remaining : ℕ) (body rest : List ℕ) (base : ℕ)
     (long : header ≤ tableHeader + length body)
-    (laid : Laid base front field reserved remaining body rest) where
+    (laid : Laid front field reserved remaining body rest base) where
   abbrev total : ℕ
   total = tableHeader + length body + remaining
 
@@ -111,22 +111,22 @@ module _ (header base : ℕ) (front field reserved : List ℕ) (remaining : ℕ)
   region-length = length-append front table ∙ ap (λ (n : ℕ). length front + n) whole
 
 -- what stands at an address is what was laid there
-at-address : (base : ℕ) (front table : List ℕ) → tableAt (front ++ table) base (base + length front) ≡ table
-at-address base front table =
+at-address : (front table : List ℕ) (base : ℕ) → tableAt (front ++ table) base (base + length front) ≡ table
+at-address front table base =
     let place : base + length front - base ≡ length front = omega arith in
     ap (λ (n : ℕ). drop n (front ++ table)) place ∙ drop-append-seam front table
 
 pub laid-passes : LaidPasses
-laid-passes header base front field reserved remaining body rest long laid =
+laid-passes header front field reserved remaining body rest base long laid =
     let table = tableOf field reserved remaining body ++ rest in
     let region = front ++ table in
     let address = base + length front in
-    let size = region-length header base front field reserved remaining body rest long laid in
+    let size = region-length header front field reserved remaining body rest base long laid in
     let place : address - base ≡ length front = omega arith in
     let inside = is-inside header (length region) base address (record { top = laid .top; start = omega arith; end = omega arith }) in
     checked-tested header region base address (ap not (eq-eqb _ _ (laid .aligned))) inside
-    ∙ ap₂ (λ (n : ℕ) (s : List ℕ). judged header n s) place (at-address base front table)
-    ∙ judged-here header base front field reserved remaining body rest long laid
+    ∙ ap₂ (λ (n : ℕ) (s : List ℕ). judged header n s) place (at-address front table base)
+    ∙ judged-here header front field reserved remaining body rest base long laid
 
 -- the name in a field
 nothing-more : (end : List ℕ) → EndsName end → upToZero end ≡ []
@@ -142,8 +142,8 @@ name-in name end behind good ended long =
     ∙ append-nil name
 
 pub laid-name : LaidName
-laid-name base front name end behind good ended long =
-    ap (λ (t : List ℕ). nameOf t) (at-address base front ((name ++ end) ++ behind)) ∙ name-in name end behind (sought name good) ended long
+laid-name front name end behind base good ended long =
+    ap (λ (t : List ℕ). nameOf t) (at-address front ((name ++ end) ++ behind) base) ∙ name-in name end behind (sought name good) ended long
 
 -- the name of a table as it is laid out
 name-of : (name end reserved : List ℕ) (remaining : ℕ) (body rest : List ℕ) → noName name ≡ false → EndsName end → length (name ++ end) ≡ nameMax
@@ -173,11 +173,11 @@ regroup : (a b c d : List ℕ) → (a ++ (b ++ c)) ++ d ≡ (a ++ b) ++ (c ++ d)
 regroup a b c d = simp append-assoc
 
 -- a root in memory
-module _ (base : ℕ) (front junk reserved : List ℕ) (remaining : ℕ) (six slots more rest : List ℕ)
+module _ (front junk reserved : List ℕ) (remaining : ℕ) (six slots more rest : List ℕ) (base : ℕ)
     (six-bytes : length six ≡ 6)
     (few : length slots ≤ countMax)
     (fit : Addresses slots)
-    (laid : Laid base front (rootName ++ (0 ∷ junk)) reserved remaining (rootBody six slots more) rest) where
+    (laid : Laid front (rootName ++ (0 ∷ junk)) reserved remaining (rootBody six slots more) rest base) where
   abbrev field : List ℕ
   field = rootName ++ (0 ∷ junk)
 
@@ -231,28 +231,28 @@ module _ (base : ℕ) (front junk reserved : List ℕ) (remaining : ℕ) (six sl
       let long = body-length in
       record {
         passes =
-            root-after (front ++ root) base (base + length front) (laid-passes rootHeader base front field reserved remaining body rest root-fits laid)
-            ∙ ap (rootJudged table) (at-address base front root)
+            root-after (front ++ root) base (base + length front) (laid-passes rootHeader front field reserved remaining body rest base root-fits laid)
+            ∙ ap (rootJudged table) (at-address front root base)
             ∙ root-tested table root count-read (ap not (equal-same (nameOf root) rootName named-root)) (count-tested (table .used) (length slots) (le-ltb _ _ few) (le-ltb (table .used) (rootHeader + 8 * length slots) (omega arith)));
-        slots-are = ap (λ (t : List ℕ). slotsOf t) (at-address base front root) ∙ slots-read;
+        slots-are = ap (λ (t : List ℕ). slotsOf t) (at-address front root base) ∙ slots-read;
       }
 
 pub laid-root : LaidRoot
-laid-root base front junk reserved remaining six slots more rest six-bytes few fit laid =
-    root-laid base front junk reserved remaining six slots more rest six-bytes few fit laid
+laid-root front junk reserved remaining six slots more rest base six-bytes few fit laid =
+    root-laid front junk reserved remaining six slots more rest base six-bytes few fit laid
 
 -- a table in a memory with others: it passes, and its slot leads there
 module _ (region : List ℕ) (base address : ℕ) (own body : List ℕ) (t : TableIn region base address own body) where
   in-passes : checked tableHeader region base address ≡ Passed (record { at = address - base; used = tableHeader + length body })
   in-passes =
       let place : base + length (t .front) - base ≡ length (t .front) = omega arith in
-      rw (t .here, t .memory, place) (laid-passes tableHeader base (t .front) (own ++ t .end) (t .reserved) (t .remaining) body (t .rest) (omega arith) (t .laid))
+      rw (t .here, t .memory, place) (laid-passes tableHeader (t .front) (own ++ t .end) (t .reserved) (t .remaining) body (t .rest) base (omega arith) (t .laid))
 
   in-name : nameOf (tableAt region base address) ≡ own
   in-name =
       let table = tableOf (own ++ t .end) (t .reserved) (t .remaining) body ++ t .rest in
       rw (t .here, t .memory)
-      (ap (λ (s : List ℕ). nameOf s) (at-address base (t .front) table) ∙ name-of own (t .end) (t .reserved) (t .remaining) body (t .rest) (sought own (t .good)) (t .ended) (t .laid .named))
+      (ap (λ (s : List ℕ). nameOf s) (at-address (t .front) table base) ∙ name-of own (t .end) (t .reserved) (t .remaining) body (t .rest) (sought own (t .good)) (t .ended) (t .laid .named))
 
 pub laid-leads : LaidLeads
 unfolding leads leadsOn
@@ -263,7 +263,7 @@ pub laid-found : LaidFound
 laid-found region base root address name body before after r t ne hb ha =
     let slots = before ++ (address ∷ after) in
     let laid : RootLaid region base root (length (r .front)) (tableHeader + length (rootBody (r .six) slots (r .more))) slots =
-    rw (r .here, r .memory) (laid-root base (r .front) (r .junk) (r .reserved) (r .remaining) (r .six) slots (r .more) (r .rest) (r .six-bytes) (r .few) (r .fit) (r .laid)) in
+    rw (r .here, r .memory) (laid-root (r .front) (r .junk) (r .reserved) (r .remaining) (r .six) slots (r .more) (r .rest) base (r .six-bytes) (r .few) (r .fit) (r .laid)) in
     let behind-header : tableHeader + length body - tableHeader ≡ length body = omega arith in
     let passing = passes-only tableHeader region base address _ (in-passes region base address name body t) in
     only-found region base root name _

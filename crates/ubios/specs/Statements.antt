@@ -214,7 +214,7 @@ tableOf field reserved remaining body =
     ++ (bytes 4 (checksumOf 4 (headOf field (tableHeader + length body + remaining) reserved remaining) body) ++ body)
 
 -- a memory with that table, at that address
-pub record Laid (base : ℕ) (front field reserved : List ℕ) (remaining : ℕ) (body rest : List ℕ) : Type 0 where
+pub record Laid (front field reserved : List ℕ) (remaining : ℕ) (body rest : List ℕ) (base : ℕ) : Type 0 where
   pub named : length field ≡ 16
   pub three : length reserved ≡ 3
   pub most : tableHeader + length body + remaining ≤ 65536
@@ -225,9 +225,9 @@ pub record Laid (base : ℕ) (front field reserved : List ℕ) (remaining : ℕ)
 -- `laid-passes`. Each table that is laid out by the rules passes its checks, at any aligned address of any memory: any name, any body, any Remaining Size.
 abbrev pub LaidPasses : Type 0
 LaidPasses =
-    (header base : ℕ) (front field reserved : List ℕ) (remaining : ℕ) (body rest : List ℕ)
+    (header : ℕ) (front field reserved : List ℕ) (remaining : ℕ) (body rest : List ℕ) (base : ℕ)
     → header ≤ tableHeader + length body
-    → Laid base front field reserved remaining body rest
+    → Laid front field reserved remaining body rest base
     → checked header (front ++ (tableOf field reserved remaining body ++ rest)) base (base + length front)
     ≡ Passed (record { at = length front; used = tableHeader + length body })
 
@@ -239,7 +239,7 @@ EndsName (b ∷ junk) = b ≡ 0
 -- `laid-name`. The name of a table is what stands in its field before the first zero, whatever follows, or all of its field.
 abbrev pub LaidName : Type 0
 LaidName =
-    (base : ℕ) (front name end behind : List ℕ)
+    (front name end behind : List ℕ) (base : ℕ)
     → badName name ≡ false
     → EndsName end
     → length (name ++ end) ≡ 16
@@ -266,11 +266,11 @@ pub record RootLaid (region : List ℕ) (base root at used : ℕ) (slots : List 
 
 abbrev pub LaidRoot : Type 0
 LaidRoot =
-    (base : ℕ) (front junk reserved : List ℕ) (remaining : ℕ) (six slots more rest : List ℕ)
+    (front junk reserved : List ℕ) (remaining : ℕ) (six slots more rest : List ℕ) (base : ℕ)
     → length six ≡ 6
     → length slots ≤ 128
     → Addresses slots
-    → Laid base front (rootName ++ (0 ∷ junk)) reserved remaining (rootBody six slots more) rest
+    → Laid front (rootName ++ (0 ∷ junk)) reserved remaining (rootBody six slots more) rest base
     → RootLaid (front ++ (tableOf (rootName ++ (0 ∷ junk)) reserved remaining (rootBody six slots more) ++ rest)) base (base + length front) (length front)
     (tableHeader + length (rootBody six slots more)) slots
 
@@ -285,7 +285,7 @@ pub record TableIn (region : List ℕ) (base address : ℕ) (name body : List �
   pub memory : region ≡ front ++ (tableOf (name ++ end) reserved remaining body ++ rest)
   pub good : badName name ≡ false
   pub ended : EndsName end
-  pub laid : Laid base front (name ++ end) reserved remaining body rest
+  pub laid : Laid front (name ++ end) reserved remaining body rest base
 
 -- and a root with these slots
 pub record RootIn (region : List ℕ) (base root : ℕ) (slots : List ℕ) : Type 0 where
@@ -301,7 +301,7 @@ pub record RootIn (region : List ℕ) (base root : ℕ) (slots : List ℕ) : Typ
   pub six-bytes : length six ≡ 6
   pub few : length slots ≤ 128
   pub fit : Addresses slots
-  pub laid : Laid base front (rootName ++ (0 ∷ junk)) reserved remaining (rootBody six slots more) rest
+  pub laid : Laid front (rootName ++ (0 ∷ junk)) reserved remaining (rootBody six slots more) rest base
 
 -- `laid-leads`. A slot with the address, not 0, of a table that is laid out by the rules leads to a passing table of a name exactly if the name is the table's.
 abbrev pub LaidLeads : Type 0
