@@ -16,7 +16,7 @@ use Rattle.region.specs.Region.{outside}
 use Rattle.ubios.specs.Checks.{badSize, judged, checked, badCount, rootJudged, rootChecked}
 use Rattle.sfi.specs.Kinds.{among}
 use Rattle.sfi.specs.Checks.{badLength, badEntries, judged as sfiJudged, headerChecked, checked as sfiChecked}
-use Rattle.cases.specs.Cases.{isCount, isLength, holds, allHold, starred, StarredHold}
+use Rattle.cases.specs.Cases.{isCount, isLength, holds, allHold, starred, StarredHold, LogHoldsFrames}
 
 pub starred-hold : StarredHold
 unfolding word bytes total totalOf sum headerBytes parsed countOf counted written consistent accept begin proceed received answers badRing waiting moved posted takenOf run end upToZero outside badSize judged checked badCount rootJudged rootChecked among badLength badEntries sfiJudged headerChecked sfiChecked same isCount isLength holds allHold starred
