@@ -2,9 +2,6 @@
 // that does the work. Where that can refuse, the answer is 0 or the refusal's number (or, of a message
 // delivered and of a table chosen, a number from 100 on), and results go to what the caller lends.
 ghost use mathlib.Core.Path.{_≡_};
-ghost use Rattle.le.specs.Sum.{sum};
-ghost use Rattle.frame.specs.Reading.{parsed};
-ghost use Rattle.frame.specs.Writing.{counted, written, outputAfter};
 ghost use Rattle.notice.specs.Ring as Ring;
 ghost use Rattle.ubios.specs.Layout.{tableHeader};
 ghost use Rattle.ubios.specs.Checks.{checked, rootChecked};
@@ -17,16 +14,14 @@ ghost use Rattle.framelog.specs.Reading.{readOf};
 ghost use Rattle.framelog.specs.Writing as LogWriting;
 ghost use Rattle.hoursquall.specs.FrameLog as Log;
 ghost use Rattle.hoursquall.specs.Reassembly.{lending, answered, left};
-ghost use Rattle.hoursquall.specs.Frame.{parseNumber, headerAfter, countNumber, countAfter, writeNumber, lengthAfter, envelopeOf};
 ghost use Rattle.hoursquall.specs.Notice.{positionsOf, postNumber, positionsAfterPost, takeNumber, positionsAfterTake, idAfter, dataLengthAfter};
 ghost use Rattle.hoursquall.specs.Ubios.{tableNumber, partAfter, rootNumber, rootPartAfter, findNumber, bodyAfter};
 ghost use Rattle.hoursquall.specs.Sfi.{checkNumber, signatureAfter, tableLengthAfter, entryNumber, entryAfter, systNumber, systAfter, chooseNumber, chosenLengthAfter};
 
+pub mod frames;
 mod state;
+pub mod sums;
 
-use frame::read::Parsed;
-use frame::write::Counted;
-use frame::write::Written;
 use framelog::Logged;
 use notice::Positions;
 use notice::Posted;
@@ -39,92 +34,6 @@ use state::tell;
 use ubios::Checked;
 use ubios::RootChecked;
 use ubios::lookup::Found;
-
-// The bytes, added up modulo 2^8.
-#[no_mangle]
-pub extern "C" fn hs_sum8(s: &[u8]) -> u8
-    ensures { λ r. ⌜ r ≡ sum 1 (now (s .entry)) ⌝ }
-{
-    le::sum::sum8(s)
-}
-
-// The 32-bit words, added up modulo 2^32.
-#[no_mangle]
-pub extern "C" fn hs_sum32(s: &[u8]) -> u32
-    ensures { λ r. ⌜ r ≡ sum 4 (now (s .entry)) ⌝ }
-{
-    le::sum::sum32(s)
-}
-
-// Reads a frame for the receiver `us`; `header` receives its words in the frame's order.
-#[no_mangle]
-pub extern "C" fn hs_frame_parse(frame: &[u8], us: u32, header: &mut [u32; 6]) -> u32
-    ensures { λ r. ⌜ r ≡ parseNumber (parsed us (now (frame .entry))) ⌝ }
-    ensures { λ _. ⌜ now (header .exit) ≡ headerAfter (parsed us (now (frame .entry))) (now (header .entry)) ⌝ }
-{
-    match frame::read::parse(frame, us) {
-        Parsed::Refused(reason) => reason.number(),
-        Parsed::Header(h) => {
-            let words = h.words;
-            *header = [
-                h.index as u32,
-                words.id,
-                words.sender,
-                h.receiver,
-                words.status,
-                words.total,
-            ];
-            0
-        }
-    }
-}
-
-// How many frames a message of `total` bytes makes in pieces of `size`.
-#[no_mangle]
-pub extern "C" fn hs_frame_count(total: usize, size: usize, frames: &mut usize) -> u32
-    ensures { λ r. ⌜ r ≡ countNumber (counted total size) ⌝ }
-    ensures { λ _. ⌜ now (frames .exit) ≡ countAfter (counted total size) (now (frames .entry)) ⌝ }
-{
-    match frame::write::count(total, size) {
-        Counted::Refused(reason) => reason.number(),
-        Counted::Frames(n) => {
-            *frames = n;
-            0
-        }
-    }
-}
-
-// Writes one frame of a message at the start of `out`; `extent` receives the frame's length.
-#[no_mangle]
-pub extern "C" fn hs_frame_write(
-    id: u32,
-    sender: u32,
-    status: u32,
-    receiver: u32,
-    message: &[u8],
-    size: usize,
-    index: usize,
-    out: &mut [u8],
-    extent: &mut usize,
-) -> u32
-    ensures { λ r. ⌜ r ≡ writeNumber (written (envelopeOf id sender status receiver) (now (message .entry)) size index (now (out .entry))) ⌝ }
-    ensures { λ _. ⌜ now (out .exit) ≡ outputAfter (envelopeOf id sender status receiver) (now (message .entry)) size index (now (out .entry)) ⌝ }
-    ensures { λ _. ⌜ now (extent .exit) ≡ lengthAfter (written (envelopeOf id sender status receiver) (now (message .entry)) size index (now (out .entry))) (now (extent .entry)) ⌝ }
-{
-    let e = frame::Envelope {
-        id,
-        sender,
-        status,
-        receiver,
-    };
-    match frame::write::write(e, message, size, index, out) {
-        Written::Refused(reason) => reason.number(),
-        Written::Frame(n) => {
-            *extent = n;
-            0
-        }
-    }
-}
 
 // Takes one frame into a reassembly. `state` is a block of seven numbers (see `stateOf`), `words` receives
 // the carried words of a message that is delivered.
