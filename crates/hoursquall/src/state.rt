@@ -1,10 +1,9 @@
-// The state of a reassembly as a block of seven numbers, for a caller to keep between calls, and its answers.
+// The state of a reassembly as a block of seven numbers, for a caller to keep between calls.
 use frame::Words;
 use reassembly::Progress;
 use reassembly::State;
-use reassembly::Verdict;
 ghost use mathlib.Core.Path.{_≡_};
-ghost use Rattle.hoursquall.specs.Reassembly.{noState, stateOf, blockOf, blockAfter, verdictNumber, wordsAfter};
+ghost use Rattle.hoursquall.specs.Reassembly.{noState, stateOf, blockOf, blockAfter};
 
 const WORD_MAX: u64 = 0xFFFF_FFFF;
 
@@ -93,19 +92,4 @@ pub(crate) fn block_after(number: u32, state: State, before: [u64; 7]) -> [u64; 
         return block_of(state);
     }
     before
-}
-
-// The number of a verdict; `words` receives the carried words of a message that is delivered.
-pub(crate) fn tell(verdict: Verdict, words: &mut [u32; 4]) -> u32
-    ensures { λ r. ⌜ r ≡ verdictNumber verdict ⌝ }
-    ensures { λ _. ⌜ now (words .exit) ≡ wordsAfter verdict (now (words .entry)) ⌝ }
-{
-    match verdict {
-        Verdict::More => 0,
-        Verdict::Delivered(w, _) => {
-            *words = [w.id, w.sender, w.status, w.total];
-            100
-        }
-        Verdict::Refused(reason) => reason.number(),
-    }
 }
