@@ -4,14 +4,8 @@ use borrow.Author.Needs.{needs}
 use Rattle.framelog.proofs.cut.Statement.{statement}
 use Rattle.framelog.proofs.cut.Tie as tie
 
-tail-requires : tie.Need-tail-requires
-tail-requires c κs = search needs
-
-head-requires : tie.Need-head-requires
-head-requires c κs = search needs
-
 returns : tie.Need-returns
 returns c = cc
 
 pub cut-spec : {M : Type 1} → statement M
-cut-spec = tie.close (tie.spec tail-requires head-requires returns)
+cut-spec = tie.close (tie.spec (λ c κs. search needs) (λ c κs. search needs) returns)

@@ -14,33 +14,6 @@ use borrow.Author.Needs.{needs}
 use Rattle.framelog.proofs.fill.Statement.{statement}
 use Rattle.framelog.proofs.fill.Tie as tie
 
-u64-bytes-requires : tie.Need-u64-bytes-requires
-u64-bytes-requires c κs = search needs
-
-slice-aggregate-head : tie.Need-slice-aggregate-head
-slice-aggregate-head c = search needs
-
-head-requires : tie.Need-head-requires
-head-requires c κs = search needs
-
-copy-requires : tie.Need-copy-requires
-copy-requires c κs = search needs
-
-sub-copy : tie.Need-sub-copy
-sub-copy c = search needs
-
-part-copy-start : tie.Need-part-copy-start
-part-copy-start c = search needs
-
-part-copy-end : tie.Need-part-copy-end
-part-copy-end c = search needs
-
-copy-requires-2 : tie.Need-copy-requires-2
-copy-requires-2 c κs = search needs
-
-same-length : tie.Need-same-length
-same-length c = search needs
-
 returns : tie.Need-returns
 returns c =
     let at-copy = c .before .before .before .before .before .before in
@@ -57,13 +30,13 @@ pub fill-spec : {M : Type 1} → statement M
 fill-spec =
     tie.close
     (tie.spec
-    u64-bytes-requires
-    slice-aggregate-head
-    head-requires
-    copy-requires
-    sub-copy
-    part-copy-start
-    part-copy-end
-    copy-requires-2
-    same-length
+    (λ c κs. search needs)
+    (λ c. search needs)
+    (λ c κs. search needs)
+    (λ c κs. search needs)
+    (λ c. search needs)
+    (λ c. search needs)
+    (λ c. search needs)
+    (λ c κs. search needs)
+    (λ c. search needs)
     returns)

@@ -7,21 +7,6 @@ use borrow.Author.Needs.{needs}
 use Rattle.framelog.proofs.frame.Statement.{statement}
 use Rattle.framelog.proofs.frame.Tie as tie
 
-read-requires : tie.Need-read-requires
-read-requires c κs = search needs
-
-enum-known-n : tie.Need-enum-known-n
-enum-known-n c = search needs
-
-cut-requires : tie.Need-cut-requires
-cut-requires c κs = search needs
-
-enum-told : tie.Need-enum-told
-enum-told c = search needs
-
-cut-requires-2 : tie.Need-cut-requires-2
-cut-requires-2 c κs = search needs
-
 returns : tie.Need-returns
 returns c =
     let at-match = c .before .before in
@@ -37,4 +22,4 @@ returns-2 c =
 pub frame-spec : {M : Type 1} → statement M
 frame-spec =
     tie.close
-    (tie.spec read-requires enum-known-n cut-requires enum-told cut-requires-2 returns returns-2)
+    (tie.spec (λ c κs. search needs) (λ c. search needs) (λ c κs. search needs) (λ c. search needs) (λ c κs. search needs) returns returns-2)

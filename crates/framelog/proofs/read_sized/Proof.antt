@@ -49,20 +49,8 @@ rest c =
 returns : tie.Need-returns
 returns c = sym (wrong-size _ (c .before .before .args .slice .now) (c .if1 .taken))
 
-u16-at-requires : tie.Need-u16-at-requires
-u16-at-requires c κs = search needs
-
-cast-n : tie.Need-cast-n
-cast-n c = search needs
-
-sub-if2 : tie.Need-sub-if2
-sub-if2 c = search needs
-
 returns-2 : tie.Need-returns-2
 returns-2 c = sym (frame-long _ (slice (c .before)) (whole (c .before)) (rw (← c .before .u16-at .ensures) (c .if2 .taken)))
-
-u16-at-requires-2 : tie.Need-u16-at-requires-2
-u16-at-requires-2 c κs = search needs
 
 returns-3 : tie.Need-returns-3
 returns-3 c =
@@ -71,15 +59,6 @@ returns-3 c =
     sym
     (not-zero _ (slice at-length) (whole at-length) (most at-most)
     (reserved-not (slice at-length) (large at-length) (λ e. c .if3 .taken (c .before .u16-at2 .ensures ∙ e))))
-
-add-tail : tie.Need-add-tail
-add-tail c = search needs
-
-tail-requires : tie.Need-tail-requires
-tail-requires c κs = search needs
-
-is-zero-requires : tie.Need-is-zero-requires
-is-zero-requires c κs = search needs
 
 returns-4 : tie.Need-returns-4
 returns-4 c =
@@ -99,14 +78,14 @@ read-sized-spec =
     tie.close
     (tie.spec
     returns
-    u16-at-requires
-    cast-n
-    sub-if2
+    (λ c κs. search needs)
+    (λ c. search needs)
+    (λ c. search needs)
     returns-2
-    u16-at-requires-2
+    (λ c κs. search needs)
     returns-3
-    add-tail
-    tail-requires
-    is-zero-requires
+    (λ c. search needs)
+    (λ c κs. search needs)
+    (λ c κs. search needs)
     returns-4
     returns-5)

@@ -17,21 +17,6 @@ returns-2 c =
     let a = c .before .before .before .before .args in
     (sym (write-long recordSize (a .frame .now) (a .slice .now) (c .before .if1 .left) (c .if2 .taken)), refl)
 
-slice-aggregate-fill : tie.Need-slice-aggregate-fill
-slice-aggregate-fill c = search needs
-
-fill-requires : tie.Need-fill-requires
-fill-requires c κs = search needs
-
-slice-aggregate-copy : tie.Need-slice-aggregate-copy
-slice-aggregate-copy c = search needs
-
-copy-requires : tie.Need-copy-requires
-copy-requires c κs = search needs
-
-same-length : tie.Need-same-length
-same-length c = search needs
-
 returns-3 : tie.Need-returns-3
 returns-3 c =
     let at-fill = c .before .before .before .before .before .before in
@@ -50,9 +35,9 @@ write-spec =
     (tie.spec
     returns
     returns-2
-    slice-aggregate-fill
-    fill-requires
-    slice-aggregate-copy
-    copy-requires
-    same-length
+    (λ c. search needs)
+    (λ c κs. search needs)
+    (λ c. search needs)
+    (λ c κs. search needs)
+    (λ c. search needs)
     returns-3)

@@ -8,32 +8,11 @@ use borrow.Author.Needs.{needs}
 use Rattle.le.proofs.copy.Statement.{statement}
 use Rattle.le.proofs.copy.Tie as tie
 
-least-requires : tie.Need-least-requires
-least-requires c κs = search needs
-
 slice-aggregate-copy-bytes : tie.Need-slice-aggregate-copy-bytes
 slice-aggregate-copy-bytes c = simp length-take (omega arith)
 
-slice-aggregate-copy-bytes-2 : tie.Need-slice-aggregate-copy-bytes-2
-slice-aggregate-copy-bytes-2 c = search needs
-
-copy-bytes-requires : tie.Need-copy-bytes-requires
-copy-bytes-requires c κs = search needs
-
-array-share-prefix-held : tie.Need-array-share-prefix-held
-array-share-prefix-held c = search needs
-
 slice-aggregate-copy-bytes-3 : tie.Need-slice-aggregate-copy-bytes-3
 slice-aggregate-copy-bytes-3 c = simp length-take (omega arith)
-
-copy-bytes-requires-2 : tie.Need-copy-bytes-requires-2
-copy-bytes-requires-2 c κs = search needs
-
-copy-bytes-requires-3 : tie.Need-copy-bytes-requires-3
-copy-bytes-requires-3 c κs = search needs
-
-same-length : tie.Need-same-length
-same-length c = search needs
 
 returns : tie.Need-returns
 returns c =
@@ -43,25 +22,19 @@ returns c =
     c .before .before .copy-bytes2 .ensures
     ∙ copy-held _ (args .src .now) (args .dst .now) (replicate 4096 0) _ (at-least .least .ensures) (at-held .copy-bytes .ensures) (search needs)
 
-same-length-2 : tie.Need-same-length-2
-same-length-2 c = search needs
-
-returns-2 : tie.Need-returns-2
-returns-2 c = search needs
-
 pub copy-spec : {M : Type 1} → statement M
 copy-spec =
     tie.close
     (tie.spec
-    least-requires
+    (λ c κs. search needs)
     slice-aggregate-copy-bytes
-    slice-aggregate-copy-bytes-2
-    copy-bytes-requires
-    array-share-prefix-held
+    (λ c. search needs)
+    (λ c κs. search needs)
+    (λ c. search needs)
     slice-aggregate-copy-bytes-3
-    copy-bytes-requires-2
-    copy-bytes-requires-3
-    same-length
+    (λ c κs. search needs)
+    (λ c κs. search needs)
+    (λ c. search needs)
     returns
-    same-length-2
-    returns-2)
+    (λ c. search needs)
+    (λ c. search needs))

@@ -11,11 +11,8 @@ slice-aggregate-result : tie.Need-slice-aggregate-result
 slice-aggregate-result c =
     let a = c .before .before .args in sym (length-take-le (a .n) (a .s .now) (le-of-lt (c .before .if1 .taken)))
 
-returns : tie.Need-returns
-returns c = search needs
-
 returns-2 : tie.Need-returns-2
 returns-2 c = let a = c .before .args in sym (take-all (a .n) (a .s .now) (search needs))
 
 pub head-spec : {M : Type 1} → statement M
-head-spec = tie.close (tie.spec slice-aggregate-result returns returns-2)
+head-spec = tie.close (tie.spec slice-aggregate-result (λ c. search needs) returns-2)

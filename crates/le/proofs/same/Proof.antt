@@ -20,27 +20,12 @@ abbrev μ-loop : tie.MeasureT-loop
 returns : tie.Need-returns Inv-loop μ-loop
 returns c = let args = c .before .before .before .args in sym (other-length (args .a .now) (args .b .now) (c .if1 .taken))
 
-loop-holds : tie.Need-loop-holds Inv-loop μ-loop
-loop-holds c = search needs
-
-sub-loop : tie.Need-sub-loop Inv-loop μ-loop
-sub-loop c = search needs
-
-same-word-requires : tie.Need-same-word-requires Inv-loop μ-loop
-same-word-requires c κs = search needs
-
 returns-2 : tie.Need-returns-2 Inv-loop μ-loop
 returns-2 c =
     let at-loop = c .before .before .before in
     let args = at-loop .before .before .before .before .args in
     let differ = sym (c .before .same-word .ensures) ∙ not-true _ (c .if2 .taken) in
     sym (other-word (args .a .now) (args .b .now) (at-loop .loop .i) (eqb-false _ _ differ))
-
-add-i : tie.Need-add-i Inv-loop μ-loop
-add-i c = search needs
-
-loop-less : tie.Need-loop-less Inv-loop μ-loop
-loop-less c = search needs
 
 loop-again : tie.Need-loop-again Inv-loop μ-loop
 loop-again c =
@@ -55,9 +40,6 @@ loop-again c =
     (at-long .if1 .left) (eqb-true _ _ alike) in
     (search needs, sym on ∙ at-loop .loop .inv .1)
 
-same-bytes-requires : tie.Need-same-bytes-requires Inv-loop μ-loop
-same-bytes-requires c κs = search needs
-
 returns-3 : tie.Need-returns-3 Inv-loop μ-loop
 returns-3 c = cc
 
@@ -68,12 +50,12 @@ same-spec =
     Inv-loop
     μ-loop
     returns
-    loop-holds
-    sub-loop
-    same-word-requires
+    (λ c. search needs)
+    (λ c. search needs)
+    (λ c κs. search needs)
     returns-2
-    add-i
-    loop-less
+    (λ c. search needs)
+    (λ c. search needs)
     loop-again
-    same-bytes-requires
+    (λ c κs. search needs)
     returns-3)

@@ -9,14 +9,8 @@ use Rattle.notice.proofs.count_waiting.Tie as tie
 returns : tie.Need-returns
 returns c = let args = c .before .before .before .args in sym (waits-between (args .c) (args .at) (between (args .at) (search needs)))
 
-sub-result : tie.Need-sub-result
-sub-result c = search needs
-
-add-result : tie.Need-add-result
-add-result c = search needs
-
 returns-2 : tie.Need-returns-2
 returns-2 c = let args = c .before .before .before .before .args in sym (waits-round (args .c) (args .at) (round (args .at) (search needs)))
 
 pub count-waiting-spec : {M : Type 1} → statement M
-count-waiting-spec = tie.close (tie.spec returns sub-result add-result returns-2)
+count-waiting-spec = tie.close (tie.spec returns (λ c. search needs) (λ c. search needs) returns-2)

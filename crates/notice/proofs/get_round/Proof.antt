@@ -11,30 +11,6 @@ use borrow.Author.Needs.{needs}
 use Rattle.notice.proofs.get_round.Statement.{statement}
 use Rattle.notice.proofs.get_round.Tie as tie
 
-sub-room : tie.Need-sub-room
-sub-room c = search needs
-
-tail-requires : tie.Need-tail-requires
-tail-requires c κs = search needs
-
-copy-requires : tie.Need-copy-requires
-copy-requires c κs = search needs
-
-sub-copy : tie.Need-sub-copy
-sub-copy c = search needs
-
-part-copy-start : tie.Need-part-copy-start
-part-copy-start c = search needs
-
-part-copy-end : tie.Need-part-copy-end
-part-copy-end c = search needs
-
-copy-requires-2 : tie.Need-copy-requires-2
-copy-requires-2 c κs = search needs
-
-same-length : tie.Need-same-length
-same-length c = search needs
-
 returns : tie.Need-returns
 returns c =
     let start = c .before .before .before .before .before .before .before .before .before .before .before .before in
@@ -49,9 +25,6 @@ returns c =
     ∙ ap (λ (l : List ℕ). take room first ++ l) part-is
     ∙ get-parts ring at out first (start .pre .0) (search needs) (start .pre .1) first-is
 
-same-length-2 : tie.Need-same-length-2
-same-length-2 c = search needs
-
 returns-2 : tie.Need-returns-2
 returns-2 c =
     let start = c .before .before .before .before .before .before .before .before in
@@ -63,14 +36,14 @@ pub get-round-spec : {M : Type 1} → statement M
 get-round-spec =
     tie.close
     (tie.spec
-    sub-room
-    tail-requires
-    copy-requires
-    sub-copy
-    part-copy-start
-    part-copy-end
-    copy-requires-2
-    same-length
+    (λ c. search needs)
+    (λ c κs. search needs)
+    (λ c κs. search needs)
+    (λ c. search needs)
+    (λ c. search needs)
+    (λ c. search needs)
+    (λ c κs. search needs)
+    (λ c. search needs)
     returns
-    same-length-2
+    (λ c. search needs)
     returns-2)

@@ -26,36 +26,6 @@ joined : (id n : ℕ) (i l : List ℕ)
 unfolding bytes
 joined id n i l ei el = rw (ei, el)
 
-u32-bytes-requires : tie.Need-u32-bytes-requires
-u32-bytes-requires c κs = search needs
-
-u32-bytes-requires-2 : tie.Need-u32-bytes-requires-2
-u32-bytes-requires-2 c κs = search needs
-
-array-read-t8 : tie.Need-array-read-t8
-array-read-t8 c = search needs
-
-array-read-t11 : tie.Need-array-read-t11
-array-read-t11 c = search needs
-
-array-read-t14 : tie.Need-array-read-t14
-array-read-t14 c = search needs
-
-array-read-t17 : tie.Need-array-read-t17
-array-read-t17 c = search needs
-
-array-read-t20 : tie.Need-array-read-t20
-array-read-t20 c = search needs
-
-array-read-t23 : tie.Need-array-read-t23
-array-read-t23 c = search needs
-
-array-read-t26 : tie.Need-array-read-t26
-array-read-t26 c = search needs
-
-array-read-t29 : tie.Need-array-read-t29
-array-read-t29 c = search needs
-
 returns : tie.Need-returns
 returns c =
     joined (c .before .before .args .id) (c .before .before .args .n) _ _ (c .before .u32-bytes .ensures) (c .u32-bytes2 .ensures)
@@ -64,14 +34,14 @@ pub header-spec : {M : Type 1} → statement M
 header-spec =
     tie.close
     (tie.spec
-    u32-bytes-requires
-    u32-bytes-requires-2
-    array-read-t8
-    array-read-t11
-    array-read-t14
-    array-read-t17
-    array-read-t20
-    array-read-t23
-    array-read-t26
-    array-read-t29
+    (λ c κs. search needs)
+    (λ c κs. search needs)
+    (λ c. search needs)
+    (λ c. search needs)
+    (λ c. search needs)
+    (λ c. search needs)
+    (λ c. search needs)
+    (λ c. search needs)
+    (λ c. search needs)
+    (λ c. search needs)
     returns)

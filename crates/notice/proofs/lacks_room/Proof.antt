@@ -9,12 +9,6 @@ use borrow.Author.Needs.{needs}
 use Rattle.notice.proofs.lacks_room.Statement.{statement}
 use Rattle.notice.proofs.lacks_room.Tie as tie
 
-sub-free : tie.Need-sub-free
-sub-free c = search needs
-
-count-waiting-requires : tie.Need-count-waiting-requires
-count-waiting-requires c κs = search needs
-
 sub-free-2 : tie.Need-sub-free-2
 sub-free-2 c =
     let args = c .before .args in omega (arith, waits-less (args .c) (args .at) (c .before .pre .0) (c .before .pre .1))
@@ -32,4 +26,4 @@ returns-2 c =
     rw (c .before .count-waiting .ensures) (sym (by-rest (args .c) (args .at) (args .n) enough))
 
 pub lacks-room-spec : {M : Type 1} → statement M
-lacks-room-spec = tie.close (tie.spec sub-free count-waiting-requires sub-free-2 returns returns-2)
+lacks-room-spec = tie.close (tie.spec (λ c. search needs) (λ c κs. search needs) sub-free-2 returns returns-2)

@@ -6,9 +6,6 @@ use borrow.Author.Needs.{needs}
 use Rattle.notice.proofs.move_on.Statement.{statement}
 use Rattle.notice.proofs.move_on.Tie as tie
 
-add-next : tie.Need-add-next
-add-next c = search needs
-
 returns : tie.Need-returns
 returns c = let args = c .before .args in sym (moved-inside (args .c) (args .at) (args .n) (search needs))
 
@@ -16,4 +13,4 @@ returns-2 : tie.Need-returns-2
 returns-2 c = let args = c .before .args in sym (moved-past (args .c) (args .at) (args .n) (search needs) (search needs) (search needs))
 
 pub move-on-spec : {M : Type 1} → statement M
-move-on-spec = tie.close (tie.spec add-next returns returns-2)
+move-on-spec = tie.close (tie.spec (λ c. search needs) returns returns-2)

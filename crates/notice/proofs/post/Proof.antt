@@ -73,9 +73,6 @@ notice-stored id write behind body ring head first h l head-is first-is behind-i
     ∙ stored-join head body write ring h (omega arith)
     ∙ ap (λ (bs : List ℕ). stored write bs ring) (ap (λ (bs : List ℕ). bs ++ body) head-is ∙ append-assoc (bytes 4 id) (bytes 4 (length body)) body)
 
-is-bad-requires : tie.Need-is-bad-requires
-is-bad-requires c κs = search needs
-
 returns : tie.Need-returns
 returns c =
     let args = c .before .before .before .before .args in
@@ -96,15 +93,6 @@ returns-3 c =
     let args = start (c .before .before .before) .args in
     let full = sym (c .before .before .lacks-room .ensures) ∙ c .if3 .taken in
     (sym (post-full (args .ring .now) (args .at) (args .id) (args .body .now) (ok (c .before .before .before)) (c .before .if2 .left) full), refl)
-
-cast-header : tie.Need-cast-header
-cast-header c = search needs
-
-header-requires : tie.Need-header-requires
-header-requires c κs = search needs
-
-slice-aggregate-put-round : tie.Need-slice-aggregate-put-round
-slice-aggregate-put-round c = search needs
 
 put-round-requires : tie.Need-put-round-requires
 put-round-requires c κs =
@@ -136,9 +124,6 @@ move-on-requires-2 c κs =
     let known = legal (at-fit .before .before .before) in
     (known .write, whole at-fit, known .most)
 
-same-length : tie.Need-same-length
-same-length c = search needs
-
 returns-4 : tie.Need-returns-4
 returns-4 c =
     let at-fit = c .before .before .before .before .before .before .before .before .before .before .before .before in
@@ -159,18 +144,18 @@ pub post-spec : {M : Type 1} → statement M
 post-spec =
     tie.close
     (tie.spec
-    is-bad-requires
+    (λ c κs. search needs)
     returns
     lacks-room-requires
     returns-2
     returns-3
-    cast-header
-    header-requires
-    slice-aggregate-put-round
+    (λ c. search needs)
+    (λ c κs. search needs)
+    (λ c. search needs)
     put-round-requires
     move-on-requires
     put-round-requires-2
     add-move-on
     move-on-requires-2
-    same-length
+    (λ c. search needs)
     returns-4)

@@ -13,27 +13,6 @@ use borrow.Author.Needs.{needs}
 use Rattle.notice.proofs.read_head.Statement.{statement}
 use Rattle.notice.proofs.read_head.Tie as tie
 
-slice-aggregate-get-round : tie.Need-slice-aggregate-get-round
-slice-aggregate-get-round c = search needs
-
-get-round-requires : tie.Need-get-round-requires
-get-round-requires c κs = search needs
-
-slice-aggregate-u32-at : tie.Need-slice-aggregate-u32-at
-slice-aggregate-u32-at c = search needs
-
-u32-at-requires : tie.Need-u32-at-requires
-u32-at-requires c κs = search needs
-
-slice-aggregate-u32-at-2 : tie.Need-slice-aggregate-u32-at-2
-slice-aggregate-u32-at-2 c = search needs
-
-u32-at-requires-2 : tie.Need-u32-at-requires-2
-u32-at-requires-2 c κs = search needs
-
-cast-t13 : tie.Need-cast-t13
-cast-t13 c = search needs
-
 returns : tie.Need-returns
 returns c =
     let start = c .before .before .before .before .before .before .before .before in
@@ -48,11 +27,11 @@ pub read-head-spec : {M : Type 1} → statement M
 read-head-spec =
     tie.close
     (tie.spec
-    slice-aggregate-get-round
-    get-round-requires
-    slice-aggregate-u32-at
-    u32-at-requires
-    slice-aggregate-u32-at-2
-    u32-at-requires-2
-    cast-t13
+    (λ c. search needs)
+    (λ c κs. search needs)
+    (λ c. search needs)
+    (λ c κs. search needs)
+    (λ c. search needs)
+    (λ c κs. search needs)
+    (λ c. search needs)
     returns)

@@ -80,9 +80,6 @@ data-read ring read n behind h l behind-is =
     ∙ ap (ListN.take n) (turned-moved read headerSize ring h (omega arith))
     ∙ take-append-le n (drop headerSize seen) (ListN.take headerSize seen) room
 
-is-bad-requires : tie.Need-is-bad-requires
-is-bad-requires c κs = search needs
-
 returns : tie.Need-returns
 returns c =
     let args = c .before .before .before .before .args in
@@ -148,17 +145,11 @@ get-round-requires c κs =
     let inside : c .before .move-on .result < length (args .ring .now) = rw (c .before .move-on .ensures) (moved-below _ _ 8 (known .read)) in
     (le-of-lt inside, part-fits _ (args .out .now) (args .ring .now) (within at-fit))
 
-add-move-on : tie.Need-add-move-on
-add-move-on c = search needs
-
 move-on-requires-2 : tie.Need-move-on-requires-2
 move-on-requires-2 c κs =
     let at-fit = c .before .before .before .before .before in
     let known = legal (at-legal (at-fit .before .before .before)) in
     (known .read, within at-fit, known .most)
-
-same-length : tie.Need-same-length
-same-length c = search needs
 
 returns-7 : tie.Need-returns-7
 returns-7 c =
@@ -185,7 +176,7 @@ pub take-spec : {M : Type 1} → statement M
 take-spec =
     tie.close
     (tie.spec
-    is-bad-requires
+    (λ c κs. search needs)
     returns
     returns-2
     count-waiting-requires
@@ -198,7 +189,7 @@ take-spec =
     slice-relend-prefix-get-round
     slice-aggregate-get-round
     get-round-requires
-    add-move-on
+    (λ c. search needs)
     move-on-requires-2
-    same-length
+    (λ c. search needs)
     returns-7)

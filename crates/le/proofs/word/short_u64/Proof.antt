@@ -6,24 +6,6 @@ use borrow.Author.Needs.{needs}
 use Rattle.le.proofs.word.short_u64.Statement.{statement}
 use Rattle.le.proofs.word.short_u64.Tie as tie
 
-u32-at-requires : tie.Need-u32-at-requires
-u32-at-requires c κs = search needs
-
-cast-result : tie.Need-cast-result
-cast-result c = search needs
-
-u32-at-requires-2 : tie.Need-u32-at-requires-2
-u32-at-requires-2 c κs = search needs
-
-cast-result-2 : tie.Need-cast-result-2
-cast-result-2 c = search needs
-
-mul-result : tie.Need-mul-result
-mul-result c = search needs
-
-add-result : tie.Need-add-result
-add-result c = search needs
-
 returns : tie.Need-returns
 returns c = omega (arith, word-split 4 4 (c .before .before .before .args .s .now))
 
@@ -31,10 +13,10 @@ pub short-u64-spec : {M : Type 1} → statement M
 short-u64-spec =
     tie.close
     (tie.spec
-    u32-at-requires
-    cast-result
-    u32-at-requires-2
-    cast-result-2
-    mul-result
-    add-result
+    (λ c κs. search needs)
+    (λ c. search needs)
+    (λ c κs. search needs)
+    (λ c. search needs)
+    (λ c. search needs)
+    (λ c. search needs)
     returns)

@@ -4,14 +4,8 @@ use borrow.Author.Needs.{needs}
 use Rattle.le.proofs.word.u16_at.Statement.{statement}
 use Rattle.le.proofs.word.u16_at.Tie as tie
 
-tail-requires : tie.Need-tail-requires
-tail-requires c κs = search needs
-
-first-u16-requires : tie.Need-first-u16-requires
-first-u16-requires c κs = search needs
-
 returns : tie.Need-returns
 returns c = cc
 
 pub u16-at-spec : {M : Type 1} → statement M
-u16-at-spec = tie.close (tie.spec tail-requires first-u16-requires returns)
+u16-at-spec = tie.close (tie.spec (λ c κs. search needs) (λ c κs. search needs) returns)

@@ -5,15 +5,9 @@ use borrow.Author.Needs.{needs}
 use Rattle.le.proofs.word.u16_bytes.Statement.{statement}
 use Rattle.le.proofs.word.u16_bytes.Tie as tie
 
-cast-t4 : tie.Need-cast-t4
-cast-t4 c = search needs
-
-cast-t6 : tie.Need-cast-t6
-cast-t6 c = search needs
-
 returns : tie.Need-returns
 unfolding bytes
 returns c = search needs
 
 pub u16-bytes-spec : {M : Type 1} → statement M
-u16-bytes-spec = tie.close (tie.spec cast-t4 cast-t6 returns)
+u16-bytes-spec = tie.close (tie.spec (λ c. search needs) (λ c. search needs) returns)

@@ -4,15 +4,6 @@ use borrow.Author.Needs.{needs}
 use Rattle.le.proofs.word.u64_at.Statement.{statement}
 use Rattle.le.proofs.word.u64_at.Tie as tie
 
-tail-requires : tie.Need-tail-requires
-tail-requires c κs = search needs
-
-whole-u64-requires : tie.Need-whole-u64-requires
-whole-u64-requires c κs = search needs
-
-short-u64-requires : tie.Need-short-u64-requires
-short-u64-requires c κs = search needs
-
 returns : tie.Need-returns
 returns c = cc
 
@@ -21,4 +12,4 @@ returns-2 c = cc
 
 pub u64-at-spec : {M : Type 1} → statement M
 u64-at-spec =
-    tie.close (tie.spec tail-requires whole-u64-requires short-u64-requires returns returns-2)
+    tie.close (tie.spec (λ c κs. search needs) (λ c κs. search needs) (λ c κs. search needs) returns returns-2)

@@ -5,11 +5,8 @@ use borrow.Author.Needs.{needs}
 use Rattle.le.proofs.word.u8_at.Statement.{statement}
 use Rattle.le.proofs.word.u8_at.Tie as tie
 
-byte-requires : tie.Need-byte-requires
-byte-requires c κs = search needs
-
 returns : tie.Need-returns
 returns c = let args = c .before .before .args in rw (byte-at (args .s .now) (args .at)) (c .byte .ensures)
 
 pub u8-at-spec : {M : Type 1} → statement M
-u8-at-spec = tie.close (tie.spec byte-requires returns)
+u8-at-spec = tie.close (tie.spec (λ c κs. search needs) returns)
