@@ -20,13 +20,10 @@ noState = Open (record { words = wordsFrom []; next = 0; filled = 0 })
 abbrev pub wordMax : ℕ
 wordMax = 0xFFFFFFFF
 
--- The state that a block of seven numbers is: 0 is fresh, whatever follows it; 1 is open, with the carried words, the next Index and how many bytes are
--- filled. A block that is no state reads as `noState`, so that it gets 11.
-unfoldable pub stateOf : List ℕ → State
-stateOf b =
-    cond (eqb (getD b 0 0) 0) Fresh
-    (cond (not (eqb (getD b 0 0) 1)) noState
-    (cond (ltb wordMax (getD b 1 0)) noState
+-- the open state of a block: the carried words, the next Index and how many bytes are filled
+abbrev pub openOf : List ℕ → State
+openOf b =
+    cond (ltb wordMax (getD b 1 0)) noState
     (cond (ltb wordMax (getD b 2 0)) noState
     (cond (ltb wordMax (getD b 3 0)) noState
     (cond (ltb wordMax (getD b 4 0)) noState
@@ -34,7 +31,11 @@ stateOf b =
       words = record { id = getD b 1 0; sender = getD b 2 0; status = getD b 3 0; total = getD b 4 0 };
       next = getD b 5 0;
       filled = getD b 6 0;
-    })))))))
+    })))))
+
+-- The state that a block of seven numbers is: 0 is fresh, whatever follows it; 1 is open. A block that is no state reads as `noState`, so that it gets 11.
+unfoldable pub stateOf : List ℕ → State
+stateOf b = cond (eqb (getD b 0 0) 0) Fresh (cond (not (eqb (getD b 0 0) 1)) noState (openOf b))
 
 -- the block that a state is written as
 abbrev pub blockOf : State → List ℕ

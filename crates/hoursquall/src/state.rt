@@ -3,7 +3,7 @@ use frame::Words;
 use reassembly::Progress;
 use reassembly::State;
 ghost use mathlib.Core.Path.{_≡_};
-ghost use Rattle.hoursquall.specs.Reassembly.{noState, stateOf, blockOf, blockAfter};
+ghost use Rattle.hoursquall.specs.Reassembly.{noState, openOf, stateOf, blockOf, blockAfter};
 
 const WORD_MAX: u64 = 0xFFFF_FFFF;
 
@@ -23,20 +23,27 @@ fn no_state() -> State
     })
 }
 
+// A block that is no state reads as one that is refused.
 pub(crate) fn state_of(b: [u64; 7]) -> State
     ensures { λ r. ⌜ r ≡ stateOf b ⌝ }
 {
     let kind = b[0];
-    let id = b[1];
-    let sender = b[2];
-    let status = b[3];
-    let total = b[4];
     if kind == 0 {
         return State::Fresh;
     }
     if kind != 1 {
         return no_state();
     }
+    open_of(b)
+}
+
+fn open_of(b: [u64; 7]) -> State
+    ensures { λ r. ⌜ r ≡ openOf b ⌝ }
+{
+    let id = b[1];
+    let sender = b[2];
+    let status = b[3];
+    let total = b[4];
     if WORD_MAX < id {
         return no_state();
     }
