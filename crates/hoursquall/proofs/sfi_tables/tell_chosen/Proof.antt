@@ -14,4 +14,5 @@ returns-3 c = rw (c .before .enum-told2 .given .1) (refl, c .length-of2 .ensures
 pub tell-chosen-spec : {M : Type 1} → statement M
 tell-chosen-spec =
     tie.close
-    (tie.spec (λ c. search needs) (λ c κs. search needs) (λ c. search needs) (λ c κs. search needs) (λ c. search needs) (λ c κs. search needs) (λ c. search needs) returns-2 returns-3)
+    (tie.spec (λ c. search needs) (λ c κs. search needs) (λ c. search needs) (λ c κs. search needs) (λ c. search needs)
+    (λ c κs. search needs) (λ c. search needs) returns-2 returns-3)

@@ -7,4 +7,5 @@ use Rattle.hoursquall.proofs.state.block_of.Tie as tie
 pub block-of-spec : {M : Type 1} → statement M
 block-of-spec =
     tie.close
-    (tie.spec (λ c. search needs) (λ c. search needs) (λ c. search needs) (λ c. search needs) (λ c. search needs) (λ c. search needs) (λ c. search needs) (λ c. rw (c .before .before .before .before .before .before .state .given .1)))
+    (tie.spec (λ c. search needs) (λ c. search needs) (λ c. search needs) (λ c. search needs) (λ c. search needs) (λ c. search needs) (λ c. search needs)
+    (λ c. rw (c .before .before .before .before .before .before .state .given .1)))
