@@ -20,7 +20,7 @@ noState = Open (record { words = wordsFrom []; next = 0; filled = 0 })
 abbrev pub wordMax : ℕ
 wordMax = 0xFFFFFFFF
 
--- the open state of a block: the carried words, the next Index and how many bytes are filled
+-- the open state that a block is: the carried words, each of 32 bits, the next Index and how many bytes are filled
 abbrev pub openOf : List ℕ → State
 openOf b =
     cond (ltb wordMax (getD b 1 0)) noState
