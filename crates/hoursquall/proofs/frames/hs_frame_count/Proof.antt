@@ -7,4 +7,4 @@ use Rattle.hoursquall.proofs.frames.hs_frame_count.Tie as tie
 pub hs-frame-count-spec : {M : Type 1} → statement M
 hs-frame-count-spec =
     tie.close
-    (tie.spec (λ c κs. search needs) (λ c κs. search needs) (λ c. rw (← c .before .before .count .ensures) (c .tell-counted .ensures)))
+    (tie.spec (λ c κs. search needs) (λ c κs. search needs) (λ c. rw (c .before .before .count .ensures) at (c .tell-counted .ensures)))

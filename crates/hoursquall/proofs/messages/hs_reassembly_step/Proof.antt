@@ -7,8 +7,9 @@ use Rattle.hoursquall.proofs.messages.hs_reassembly_step.Tie as tie
 returns : tie.Need-returns
 returns c =
     let at = c .before .before .before .before .before in
-    let told = c .tell .ensures in
-    rw (← at .before .before .state-of .ensures, ← at .step .ensures .0) (told .0, (told .1 .0, (at .step .ensures .1, told .1 .1)))
+    let stepped = rw (at .before .before .state-of .ensures) at (at .step .ensures) in
+    let told = rw (stepped .0) at (c .tell .ensures) in
+    (told .0, (told .1 .0, (stepped .1, told .1 .1)))
 
 pub hs-reassembly-step-spec : {M : Type 1} → statement M
 hs-reassembly-step-spec = tie.close (tie.spec (λ c κs. search needs) (λ c κs. search needs) (λ c κs. search needs) (λ c. search needs) returns)

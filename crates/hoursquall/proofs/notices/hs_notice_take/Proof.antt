@@ -7,8 +7,9 @@ use Rattle.hoursquall.proofs.notices.hs_notice_take.Tie as tie
 returns : tie.Need-returns
 returns c =
     let at = c .before .before .before .before .before .before in
-    let told = c .tell-taken .ensures in
-    rw (← at .before .before .positions-of .ensures, ← at .take .ensures .0) (told .0, (told .1 .0, (at .take .ensures .1, told .1 .1)))
+    let taken = rw (at .before .before .positions-of .ensures) at (at .take .ensures) in
+    let told = rw (taken .0) at (c .tell-taken .ensures) in
+    (told .0, (told .1 .0, (rw (taken .0) at (taken .1), told .1 .1)))
 
 pub hs-notice-take-spec : {M : Type 1} → statement M
 hs-notice-take-spec = tie.close (tie.spec (λ c κs. search needs) (λ c κs. search needs) (λ c κs. search needs) (λ c. search needs) returns)

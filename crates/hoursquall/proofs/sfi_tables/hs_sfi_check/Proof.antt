@@ -7,4 +7,4 @@ use Rattle.hoursquall.proofs.sfi_tables.hs_sfi_check.Tie as tie
 pub hs-sfi-check-spec : {M : Type 1} → statement M
 hs-sfi-check-spec =
     tie.close
-    (tie.spec (λ c κs. search needs) (λ c κs. search needs) (λ c. rw (← c .before .before .before .check .ensures) (c .tell-checked .ensures)))
+    (tie.spec (λ c κs. search needs) (λ c κs. search needs) (λ c. rw (c .before .before .before .check .ensures) at (c .tell-checked .ensures)))

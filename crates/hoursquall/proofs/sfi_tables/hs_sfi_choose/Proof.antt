@@ -7,4 +7,4 @@ use Rattle.hoursquall.proofs.sfi_tables.hs_sfi_choose.Tie as tie
 pub hs-sfi-choose-spec : {M : Type 1} → statement M
 hs-sfi-choose-spec =
     tie.close
-    (tie.spec (λ c κs. search needs) (λ c κs. search needs) (λ c. rw (← c .before .before .choose .ensures) (c .tell-chosen .ensures)))
+    (tie.spec (λ c κs. search needs) (λ c κs. search needs) (λ c. rw (c .before .before .choose .ensures) at (c .tell-chosen .ensures)))

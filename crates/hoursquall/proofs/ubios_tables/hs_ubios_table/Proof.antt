@@ -7,4 +7,4 @@ use Rattle.hoursquall.proofs.ubios_tables.hs_ubios_table.Tie as tie
 pub hs-ubios-table-spec : {M : Type 1} → statement M
 hs-ubios-table-spec =
     tie.close
-    (tie.spec (λ c κs. search needs) (λ c κs. search needs) (λ c. rw (← c .before .before .check .ensures) (c .tell-checked .ensures)))
+    (tie.spec (λ c κs. search needs) (λ c κs. search needs) (λ c. rw (c .before .before .check .ensures) at (c .tell-checked .ensures)))
