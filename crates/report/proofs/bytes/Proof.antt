@@ -12,45 +12,18 @@ Inv-loop s first i₀ i = i ≤ length first
 abbrev μ-loop : tie.MeasureT-loop
 μ-loop s first i₀ i = length first - i
 
-head-requires : tie.Need-head-requires Inv-loop μ-loop
-head-requires c κs = search needs
-
-loop-holds : tie.Need-loop-holds Inv-loop μ-loop
-loop-holds c = search needs
-
-shared-slice-read-next-byte : tie.Need-shared-slice-read-next-byte Inv-loop μ-loop
-shared-slice-read-next-byte c = search needs
-
-next-byte-requires : tie.Need-next-byte-requires Inv-loop μ-loop
-next-byte-requires c κs = search needs
-
-add-i : tie.Need-add-i Inv-loop μ-loop
-add-i c = search needs
-
-loop-less : tie.Need-loop-less Inv-loop μ-loop
-loop-less c = search needs
-
-loop-again : tie.Need-loop-again Inv-loop μ-loop
-loop-again c = search needs
-
-end-bytes-requires : tie.Need-end-bytes-requires Inv-loop μ-loop
-end-bytes-requires c κs = search needs
-
-returns : tie.Need-returns Inv-loop μ-loop
-returns c = search needs
-
 pub bytes-spec : {M : Type 1} → statement M
 bytes-spec =
     tie.close
     (tie.spec
     Inv-loop
     μ-loop
-    head-requires
-    loop-holds
-    shared-slice-read-next-byte
-    next-byte-requires
-    add-i
-    loop-less
-    loop-again
-    end-bytes-requires
-    returns)
+    (λ c κs. search needs)
+    (λ c. search needs)
+    (λ c. search needs)
+    (λ c κs. search needs)
+    (λ c. search needs)
+    (λ c. search needs)
+    (λ c. search needs)
+    (λ c κs. search needs)
+    (λ c. search needs))
