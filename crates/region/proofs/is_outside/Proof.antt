@@ -10,9 +10,6 @@ use borrow.Author.Needs.{needs}
 use Rattle.region.proofs.is_outside.Statement.{statement}
 use Rattle.region.proofs.is_outside.Tie as tie
 
-runs-past-requires : tie.Need-runs-past-requires
-runs-past-requires c κs = search needs
-
 -- past the first test
 abbrev start : tie.Else1 → tie.Start
 start c = c .before .before
@@ -31,13 +28,10 @@ returns-3 c =
     let a = start (c .before .before) .args in
     sym (tested _ _ _ _ (below (c .before .before)) (le-ltb _ _ (c .before .if2 .left)) (lt-ltb (a .base + a .size) (a .address + a .header) (search needs)))
 
-sub-result : tie.Need-sub-result
-sub-result c = search needs
-
 returns-4 : tie.Need-returns-4
 returns-4 c =
     sym (tested _ _ _ _ (below (c .before .before)) (le-ltb _ _ (c .before .if2 .left)) (by-room _ _ _ _ (c .before .if2 .left) (c .if3 .left)))
 
 pub is-outside-spec : {M : Type 1} → statement M
 is-outside-spec =
-    tie.close (tie.spec runs-past-requires returns returns-2 returns-3 sub-result returns-4)
+    tie.close (tie.spec (λ c κs. search needs) returns returns-2 returns-3 (λ c. search needs) returns-4)

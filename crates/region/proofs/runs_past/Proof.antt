@@ -11,14 +11,8 @@ use Rattle.region.proofs.runs_past.Tie as tie
 returns : tie.Need-returns
 returns c = let a = c .before .args in sym (le-ltb (2 ^ 64) (a .base + a .size) (search needs))
 
-sub-result : tie.Need-sub-result
-sub-result c = search needs
-
-sub-result-2 : tie.Need-sub-result-2
-sub-result-2 c = search needs
-
 returns-2 : tie.Need-returns-2
 returns-2 c = let a = c .before .args in past-last (a .size) (a .base) (search needs) (search needs)
 
 pub runs-past-spec : {M : Type 1} → statement M
-runs-past-spec = tie.close (tie.spec returns sub-result sub-result-2 returns-2)
+runs-past-spec = tie.close (tie.spec returns (λ c. search needs) (λ c. search needs) returns-2)

@@ -11,9 +11,6 @@ use Rattle.sfi.proofs.is_bad_length.Tie as tie
 returns : tie.Need-returns
 returns c = sym (length-tested _ _ (lt-ltb _ _ (c .if1 .taken)) refl refl refl)
 
-length-of-requires : tie.Need-length-of-requires
-length-of-requires c κs = search needs
-
 returns-2 : tie.Need-returns-2
 returns-2 c =
     let read = c .before in
@@ -32,4 +29,4 @@ returns-4 c =
     ∙ ap (badLength _) (read .length-of .ensures)
 
 pub is-bad-length-spec : {M : Type 1} → statement M
-is-bad-length-spec = tie.close (tie.spec returns length-of-requires returns-2 returns-3 returns-4)
+is-bad-length-spec = tie.close (tie.spec returns (λ c κs. search needs) returns-2 returns-3 returns-4)

@@ -12,9 +12,6 @@ use borrow.Author.Needs.{needs}
 use Rattle.ubios.proofs.check.Statement.{statement}
 use Rattle.ubios.proofs.check.Tie as tie
 
-is-outside-requires : tie.Need-is-outside-requires
-is-outside-requires c κs = search needs
-
 -- past both tests
 abbrev start : tie.After-is-outside → tie.Start
 start c = c .before .before
@@ -32,12 +29,6 @@ returns-2 c = sym (checked-tested _ _ _ _ (c .before .if1 .left) (sym (c .before
 sub-at : tie.Need-sub-at
 sub-at c = not-outside _ _ _ _ (held c) .start
 
-tail-requires : tie.Need-tail-requires
-tail-requires c κs = search needs
-
-judge-requires : tie.Need-judge-requires
-judge-requires c κs = search needs
-
 returns-3 : tie.Need-returns-3
 returns-3 c =
     let at-held = c .before .before in
@@ -49,4 +40,4 @@ returns-3 c =
 pub check-spec : {M : Type 1} → statement M
 check-spec =
     tie.close
-    (tie.spec is-outside-requires returns returns-2 sub-at tail-requires judge-requires returns-3)
+    (tie.spec (λ c κs. search needs) returns returns-2 sub-at (λ c κs. search needs) (λ c κs. search needs) returns-3)

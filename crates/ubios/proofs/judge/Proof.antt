@@ -16,21 +16,6 @@ use borrow.Author.Needs.{needs}
 use Rattle.ubios.proofs.judge.Statement.{statement}
 use Rattle.ubios.proofs.judge.Tie as tie
 
-u32-at-requires : tie.Need-u32-at-requires
-u32-at-requires c κs = search needs
-
-cast-total : tie.Need-cast-total
-cast-total c = search needs
-
-u32-at-requires-2 : tie.Need-u32-at-requires-2
-u32-at-requires-2 c κs = search needs
-
-cast-remaining : tie.Need-cast-remaining
-cast-remaining c = search needs
-
-is-bad-size-requires : tie.Need-is-bad-size-requires
-is-bad-size-requires c κs = search needs
-
 -- past the test of the sizes: the table, and what was read of it
 abbrev start : tie.After-is-bad-size → tie.Start
 start c = c .before .before .before .before
@@ -62,9 +47,6 @@ summed c =
 returns : tie.Need-returns
 returns c = sym (judged-tested _ _ _ (sym (tested (c .before)) ∙ c .if1 .taken) refl refl)
 
-u8-at-requires : tie.Need-u8-at-requires
-u8-at-requires c κs = search needs
-
 returns-2 : tie.Need-returns-2
 returns-2 c = sym (judged-tested _ _ _ (good (c .before .before)) (ap not (ne-eqb _ _ (λ e. c .if2 .taken (c .before .u8-at .ensures ∙ e)))) refl)
 
@@ -73,12 +55,6 @@ sub-used c =
     let at-size = c .before .before .before in
     let known = sized _ _ _ _ (good (c .before .before)) in
     rw (at-size .before .before .u32-at .ensures, at-size .before .u32-at2 .ensures) (omega (arith, known .left, known .holds))
-
-head-requires : tie.Need-head-requires
-head-requires c κs = search needs
-
-sum32-requires : tie.Need-sum32-requires
-sum32-requires c κs = search needs
 
 returns-3 : tie.Need-returns-3
 returns-3 c =
@@ -96,16 +72,16 @@ pub judge-spec : {M : Type 1} → statement M
 judge-spec =
     tie.close
     (tie.spec
-    u32-at-requires
-    cast-total
-    u32-at-requires-2
-    cast-remaining
-    is-bad-size-requires
+    (λ c κs. search needs)
+    (λ c. search needs)
+    (λ c κs. search needs)
+    (λ c. search needs)
+    (λ c κs. search needs)
     returns
-    u8-at-requires
+    (λ c κs. search needs)
     returns-2
     sub-used
-    head-requires
-    sum32-requires
+    (λ c κs. search needs)
+    (λ c κs. search needs)
     returns-3
     returns-4)

@@ -13,21 +13,6 @@ use borrow.Author.Needs.{needs}
 use Rattle.sfi.proofs.Table.check.Statement.{statement}
 use Rattle.sfi.proofs.Table.check.Tie as tie
 
-check-header-requires : tie.Need-check-header-requires
-check-header-requires c κs = search needs
-
-enum-known-reason : tie.Need-enum-known-reason
-enum-known-reason c = search needs
-
-enum-known-t : tie.Need-enum-known-t
-enum-known-t c = search needs
-
-head-requires : tie.Need-head-requires
-head-requires c κs = search needs
-
-sum8-requires : tie.Need-sum8-requires
-sum8-requires c κs = search needs
-
 -- where the header passes: the table, and the sum as it was taken
 abbrev start : tie.After-sum8 → tie.Start
 start c = c .before .before .before .before .before .before .before
@@ -54,11 +39,11 @@ pub check-spec : {M : Type 1} → statement M
 check-spec =
     tie.close
     (tie.spec
-    check-header-requires
-    enum-known-reason
-    enum-known-t
-    head-requires
-    sum8-requires
+    (λ c κs. search needs)
+    (λ c. search needs)
+    (λ c. search needs)
+    (λ c κs. search needs)
+    (λ c κs. search needs)
     returns
     returns-2
     returns-3)

@@ -12,9 +12,6 @@ use borrow.Author.Needs.{needs}
 use Rattle.sfi.proofs.Table.check_header.Statement.{statement}
 use Rattle.sfi.proofs.Table.check_header.Tie as tie
 
-is-bad-length-requires : tie.Need-is-bad-length-requires
-is-bad-length-requires c κs = search needs
-
 -- past the test of Length
 abbrev start : tie.After-is-bad-length → tie.Start
 start c = c .before .before
@@ -33,18 +30,6 @@ is-kind c = sym (looked-up (c .before .before .before)) ∙ c .before .kind .giv
 returns : tie.Need-returns
 returns c = sym (header-tested _ _ (sym (c .before .is-bad-length .ensures) ∙ c .if1 .taken) refl)
 
-u32-at-requires : tie.Need-u32-at-requires
-u32-at-requires c κs = search needs
-
-of-requires : tie.Need-of-requires
-of-requires c κs = search needs
-
-enum-told : tie.Need-enum-told
-enum-told c = search needs
-
-enum-known-kind : tie.Need-enum-known-kind
-enum-known-kind c = search needs
-
 judge-requires : tie.Need-judge-requires
 judge-requires c κs = (listed _ _ (is-kind c) .entries, sized _ _ (good (c .before .before .before .before .before)) .least)
 
@@ -60,12 +45,12 @@ pub check-header-spec : {M : Type 1} → statement M
 check-header-spec =
     tie.close
     (tie.spec
-    is-bad-length-requires
+    (λ c κs. search needs)
     returns
-    u32-at-requires
-    of-requires
-    enum-told
-    enum-known-kind
+    (λ c κs. search needs)
+    (λ c κs. search needs)
+    (λ c. search needs)
+    (λ c. search needs)
     judge-requires
     returns-2
     returns-3)

@@ -11,15 +11,6 @@ use borrow.Author.Needs.{needs}
 use Rattle.sfi.proofs.Table.entry.Statement.{statement}
 use Rattle.sfi.proofs.Table.entry.Tie as tie
 
-check-requires : tie.Need-check-requires
-check-requires c κs = search needs
-
-enum-known-reason : tie.Need-enum-known-reason
-enum-known-reason c = search needs
-
-enum-known-t : tie.Need-enum-known-t
-enum-known-t c = search needs
-
 -- the table passes
 abbrev start : tie.After-known-told2 → tie.Start
 start c = c .before .before .before .before .before
@@ -44,4 +35,4 @@ returns-2 c =
 pub entry-spec : {M : Type 1} → statement M
 entry-spec =
     tie.close
-    (tie.spec check-requires enum-known-reason enum-known-t find-entry-requires returns returns-2)
+    (tie.spec (λ c κs. search needs) (λ c. search needs) (λ c. search needs) find-entry-requires returns returns-2)

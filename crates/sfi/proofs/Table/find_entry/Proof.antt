@@ -19,12 +19,6 @@ start c = c .before .before
 inside : (c : tie.Else1) → start c .args .k * start c .args .self .kind .entry + start c .args .self .kind .entry ≤ start c .args .self .length - headerSize
 inside c = entry-end _ _ _ (start c .pre .0) (c .if1 .left)
 
-sub-if1 : tie.Need-sub-if1
-sub-if1 c = search needs
-
-div-if1 : tie.Need-div-if1
-div-if1 c = search needs
-
 returns : tie.Need-returns
 returns c =
     let a = c .before .before .args in
@@ -42,4 +36,4 @@ returns-2 c =
     sym (ap (λ (b : Bool). cond b (At (entryAt (a .self) (a .k))) (Refused NoEntry)) (lt-ltb (a .k) (entriesOf (a .self)) (c .if1 .left)))
 
 pub find-entry-spec : {M : Type 1} → statement M
-find-entry-spec = tie.close (tie.spec sub-if1 div-if1 returns mul-t4 add-t5 returns-2)
+find-entry-spec = tie.close (tie.spec (λ c. search needs) (λ c. search needs) returns mul-t4 add-t5 returns-2)

@@ -7,18 +7,6 @@ use borrow.Author.Needs.{needs}
 use Rattle.sfi.proofs.choice.choose.Statement.{statement}
 use Rattle.sfi.proofs.choice.choose.Tie as tie
 
-of-requires : tie.Need-of-requires
-of-requires c κs = search needs
-
-enum-told : tie.Need-enum-told
-enum-told c = search needs
-
-enum-told-2 : tie.Need-enum-told-2
-enum-told-2 c = search needs
-
-choose-between-requires : tie.Need-choose-between-requires
-choose-between-requires c κs = search needs
-
 returns : tie.Need-returns
 returns c =
     let a = c .before .before .before .before .before .args in
@@ -34,4 +22,4 @@ returns-2 c =
 pub choose-spec : {M : Type 1} → statement M
 choose-spec =
     tie.close
-    (tie.spec of-requires enum-told enum-told-2 choose-between-requires returns returns-2)
+    (tie.spec (λ c κs. search needs) (λ c. search needs) (λ c. search needs) (λ c κs. search needs) returns returns-2)

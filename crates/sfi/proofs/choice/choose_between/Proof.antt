@@ -6,14 +6,8 @@ use borrow.Author.Needs.{needs}
 use Rattle.sfi.proofs.choice.choose_between.Statement.{statement}
 use Rattle.sfi.proofs.choice.choose_between.Tie as tie
 
-passes-as-requires : tie.Need-passes-as-requires
-passes-as-requires c κs = search needs
-
 returns : tie.Need-returns
 returns c = sym (between-tested _ _ _ (sym (c .before .passes-as .ensures) ∙ c .if1 .taken) refl)
-
-passes-as-requires-2 : tie.Need-passes-as-requires-2
-passes-as-requires-2 c κs = search needs
 
 returns-2 : tie.Need-returns-2
 returns-2 c =
@@ -27,4 +21,4 @@ returns-3 c =
 
 pub choose-between-spec : {M : Type 1} → statement M
 choose-between-spec =
-    tie.close (tie.spec passes-as-requires returns passes-as-requires-2 returns-2 returns-3)
+    tie.close (tie.spec (λ c κs. search needs) returns (λ c κs. search needs) returns-2 returns-3)

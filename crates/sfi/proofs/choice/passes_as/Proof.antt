@@ -7,15 +7,6 @@ use borrow.Author.Needs.{needs}
 use Rattle.sfi.proofs.choice.passes_as.Statement.{statement}
 use Rattle.sfi.proofs.choice.passes_as.Tie as tie
 
-check-requires : tie.Need-check-requires
-check-requires c κs = search needs
-
-enum-told : tie.Need-enum-told
-enum-told c = search needs
-
-enum-known-t : tie.Need-enum-known-t
-enum-known-t c = search needs
-
 returns : tie.Need-returns
 returns c =
     let a = c .before .before .before .before .args in
@@ -28,4 +19,4 @@ returns-2 c =
     sym (ap (λ (x : Checked). passesAs (a .signature) x) (sym (at-match .before .before .check .ensures) ∙ at-match .t .given .1))
 
 pub passes-as-spec : {M : Type 1} → statement M
-passes-as-spec = tie.close (tie.spec check-requires enum-told enum-known-t returns returns-2)
+passes-as-spec = tie.close (tie.spec (λ c κs. search needs) (λ c. search needs) (λ c. search needs) returns returns-2)

@@ -10,12 +10,6 @@ use borrow.Author.Needs.{needs}
 use Rattle.sfi.proofs.search.is_hit.Statement.{statement}
 use Rattle.sfi.proofs.search.is_hit.Tie as tie
 
-tail-requires : tie.Need-tail-requires
-tail-requires c κs = search needs
-
-u32-at-requires : tie.Need-u32-at-requires
-u32-at-requires c κs = search needs
-
 -- what was read of the table there
 abbrev start : tie.After-tail → tie.Start
 start c = c .before .before
@@ -35,23 +29,8 @@ answer c = c .check .ensures ∙ ap checked (c .before .before .before .before .
 returns : tie.Need-returns
 returns c = sym (other-signature _ _ (λ e. c .if1 .taken (signature (c .before) ∙ e)))
 
-sub-if2 : tie.Need-sub-if2
-sub-if2 c = search needs
-
-length-of-requires : tie.Need-length-of-requires
-length-of-requires c κs = search needs
-
 returns-2 : tie.Need-returns-2
 returns-2 c = sym (past-page _ _ (rw (← total (c .before)) (c .if2 .taken)))
-
-check-requires : tie.Need-check-requires
-check-requires c κs = search needs
-
-enum-told : tie.Need-enum-told
-enum-told c = search needs
-
-enum-told-2 : tie.Need-enum-told-2
-enum-told-2 c = search needs
 
 returns-3 : tie.Need-returns-3
 returns-3 c =
@@ -69,14 +48,14 @@ pub is-hit-spec : {M : Type 1} → statement M
 is-hit-spec =
     tie.close
     (tie.spec
-    tail-requires
-    u32-at-requires
+    (λ c κs. search needs)
+    (λ c κs. search needs)
     returns
-    sub-if2
-    length-of-requires
+    (λ c. search needs)
+    (λ c κs. search needs)
     returns-2
-    check-requires
-    enum-told
-    enum-told-2
+    (λ c κs. search needs)
+    (λ c. search needs)
+    (λ c. search needs)
     returns-3
     returns-4)

@@ -10,21 +10,6 @@ use borrow.Author.Needs.{needs}
 use Rattle.ubios.proofs.Root.check.Statement.{statement}
 use Rattle.ubios.proofs.Root.check.Tie as tie
 
-check-requires : tie.Need-check-requires
-check-requires c κs = search needs
-
-enum-known-reason : tie.Need-enum-known-reason
-enum-known-reason c = search needs
-
-enum-known-table : tie.Need-enum-known-table
-enum-known-table c = search needs
-
-tail-requires : tie.Need-tail-requires
-tail-requires c κs = search needs
-
-judge-requires : tie.Need-judge-requires
-judge-requires c κs = search needs
-
 returns : tie.Need-returns
 returns c = sym (root-after _ _ _ (sym (c .before .before .before .check .ensures) ∙ c .before .reason .given .1))
 
@@ -41,10 +26,10 @@ pub check-spec : {M : Type 1} → statement M
 check-spec =
     tie.close
     (tie.spec
-    check-requires
-    enum-known-reason
-    enum-known-table
-    tail-requires
-    judge-requires
+    (λ c κs. search needs)
+    (λ c. search needs)
+    (λ c. search needs)
+    (λ c κs. search needs)
+    (λ c κs. search needs)
     returns
     returns-2)

@@ -10,14 +10,8 @@ use Rattle.ubios.proofs.Root.is_bad_count.Tie as tie
 returns : tie.Need-returns
 returns c = sym (count-tested _ _ (lt-ltb _ _ (c .if1 .taken)) refl)
 
-mul-result : tie.Need-mul-result
-mul-result c = search needs
-
-add-result : tie.Need-add-result
-add-result c = search needs
-
 returns-2 : tie.Need-returns-2
 returns-2 c = sym (count-tested _ _ (le-ltb _ _ (c .if1 .left)) refl)
 
 pub is-bad-count-spec : {M : Type 1} → statement M
-is-bad-count-spec = tie.close (tie.spec returns mul-result add-result returns-2)
+is-bad-count-spec = tie.close (tie.spec returns (λ c. search needs) (λ c. search needs) returns-2)

@@ -9,9 +9,6 @@ use borrow.Author.Needs.{needs}
 use Rattle.ubios.proofs.Root.judge.Statement.{statement}
 use Rattle.ubios.proofs.Root.judge.Tie as tie
 
-slice-aggregate-is-named : tie.Need-slice-aggregate-is-named
-slice-aggregate-is-named c = search needs
-
 is-named-requires : tie.Need-is-named-requires
 is-named-requires c κs = root-name-good
 
@@ -21,15 +18,6 @@ named c = sym (ap not (c .before .is-named .ensures)) ∙ c .if1 .left
 
 returns : tie.Need-returns
 returns c = sym (root-tested _ _ refl (sym (ap not (c .before .is-named .ensures)) ∙ c .if1 .taken) refl)
-
-u16-at-requires : tie.Need-u16-at-requires
-u16-at-requires c κs = search needs
-
-cast-count : tie.Need-cast-count
-cast-count c = search needs
-
-is-bad-count-requires : tie.Need-is-bad-count-requires
-is-bad-count-requires c κs = search needs
 
 returns-2 : tie.Need-returns-2
 returns-2 c =
@@ -45,11 +33,11 @@ pub judge-spec : {M : Type 1} → statement M
 judge-spec =
     tie.close
     (tie.spec
-    slice-aggregate-is-named
+    (λ c. search needs)
     is-named-requires
     returns
-    u16-at-requires
-    cast-count
-    is-bad-count-requires
+    (λ c κs. search needs)
+    (λ c. search needs)
+    (λ c κs. search needs)
     returns-2
     returns-3)

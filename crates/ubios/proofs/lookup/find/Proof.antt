@@ -18,29 +18,11 @@ use borrow.Author.Needs.{needs}
 use Rattle.ubios.proofs.lookup.find.Statement.{statement}
 use Rattle.ubios.proofs.lookup.find.Tie as tie
 
-is-bad-name-requires : tie.Need-is-bad-name-requires
-is-bad-name-requires c κs = search needs
-
 returns : tie.Need-returns
 returns c = sym (bad-name _ _ _ _ (sym (c .before .is-bad-name .ensures) ∙ c .if1 .taken))
 
 good : (c : tie.Else1) → badName (c .before .before .before .before .args .name .now) ≡ false
 good c = sym (c .before .is-bad-name .ensures) ∙ c .if1 .left
-
-check-requires : tie.Need-check-requires
-check-requires c κs = search needs
-
-enum-known-reason : tie.Need-enum-known-reason
-enum-known-reason c = search needs
-
-enum-known-r : tie.Need-enum-known-r
-enum-known-r c = search needs
-
-tail-requires : tie.Need-tail-requires
-tail-requires c κs = search needs
-
-tail-requires-2 : tie.Need-tail-requires-2
-tail-requires-2 c κs = search needs
 
 -- where the root passes
 abbrev start : tie.After-tail2 → tie.Start
@@ -74,13 +56,13 @@ pub find-spec : {M : Type 1} → statement M
 find-spec =
     tie.close
     (tie.spec
-    is-bad-name-requires
+    (λ c κs. search needs)
     returns
-    check-requires
-    enum-known-reason
-    enum-known-r
-    tail-requires
-    tail-requires-2
+    (λ c κs. search needs)
+    (λ c. search needs)
+    (λ c. search needs)
+    (λ c κs. search needs)
+    (λ c κs. search needs)
     walk-requires
     returns-2
     returns-3)

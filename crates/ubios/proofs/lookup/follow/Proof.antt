@@ -28,23 +28,8 @@ returns c = sym (no-hit _ _ _ _ _ (at-gap _ _ _ _ (eq-eqb _ _ (c .if1 .taken))))
 returns-2 : tie.Need-returns-2
 returns-2 c = sym (no-hit _ _ _ _ _ (below-region _ _ _ _ (c .if2 .taken)))
 
-tail-requires : tie.Need-tail-requires
-tail-requires c κs = search needs
-
-is-named-requires : tie.Need-is-named-requires
-is-named-requires c κs = search needs
-
 returns-3 : tie.Need-returns-3
 returns-3 c = sym (no-hit _ _ _ _ _ (other-name _ _ _ _ (sym (tested (c .before)) ∙ not-true _ (c .if3 .taken))))
-
-check-requires : tie.Need-check-requires
-check-requires c κs = search needs
-
-enum-told : tie.Need-enum-told
-enum-told c = search needs
-
-enum-known-table : tie.Need-enum-known-table
-enum-known-table c = search needs
 
 -- the table that was found to pass
 abbrev entry : tie.After-struct-known → tie.Start
@@ -74,12 +59,12 @@ follow-spec =
     (tie.spec
     returns
     returns-2
-    tail-requires
-    is-named-requires
+    (λ c κs. search needs)
+    (λ c κs. search needs)
     returns-3
-    check-requires
-    enum-told
-    enum-known-table
+    (λ c κs. search needs)
+    (λ c. search needs)
+    (λ c. search needs)
     add-t14
     sub-t15
     returns-4

@@ -8,15 +8,6 @@ use borrow.Author.Needs.{needs}
 use Rattle.ubios.proofs.lookup.walk.Statement.{statement}
 use Rattle.ubios.proofs.lookup.walk.Tie as tie
 
-next-hit-requires : tie.Need-next-hit-requires
-next-hit-requires c κs = search needs
-
-enum-told : tie.Need-enum-told
-enum-told c = search needs
-
-enum-known-first : tie.Need-enum-known-first
-enum-known-first c = search needs
-
 -- where there is a first hit
 abbrev start : tie.After-struct-known → tie.Start
 start c = c .before .before .before .before .before .before .before .before
@@ -28,15 +19,6 @@ one c = sym (c .before .before .before .before .next-hit .ensures) ∙ c .before
 
 add-next-hit : tie.Need-add-next-hit
 add-next-hit c = let below = below-count _ _ _ _ _ _ (one c) in search needs
-
-next-hit-requires-2 : tie.Need-next-hit-requires-2
-next-hit-requires-2 c κs = search needs
-
-enum-told-2 : tie.Need-enum-told-2
-enum-told-2 c = search needs
-
-enum-told-3 : tie.Need-enum-told-3
-enum-told-3 c = search needs
 
 returns : tie.Need-returns
 returns c = sym (none-met _ _ _ _ _ (sym (c .before .before .next-hit .ensures) ∙ c .enum-told .given .1))
@@ -51,13 +33,13 @@ pub walk-spec : {M : Type 1} → statement M
 walk-spec =
     tie.close
     (tie.spec
-    next-hit-requires
-    enum-told
-    enum-known-first
+    (λ c κs. search needs)
+    (λ c. search needs)
+    (λ c. search needs)
     add-next-hit
-    next-hit-requires-2
-    enum-told-2
-    enum-told-3
+    (λ c κs. search needs)
+    (λ c. search needs)
+    (λ c. search needs)
     returns
     returns-2
     returns-3)

@@ -16,9 +16,6 @@ returns c = sym (name-tested _ (eq-eqb _ _ (c .if1 .taken)) refl refl)
 returns-2 : tie.Need-returns-2
 returns-2 c = sym (name-tested _ (ne-eqb _ _ (c .before .if1 .left)) (lt-ltb _ _ (c .if2 .taken)) refl)
 
-zero-at-requires : tie.Need-zero-at-requires
-zero-at-requires c κs = search needs
-
 returns-3 : tie.Need-returns-3
 returns-3 c =
     let at-length = c .before in
@@ -27,4 +24,4 @@ returns-3 c =
     ∙ sym (name-tested name (ne-eqb _ _ (at-length .before .if1 .left)) (le-ltb _ _ (at-length .if2 .left)) refl)
 
 pub is-bad-name-spec : {M : Type 1} → statement M
-is-bad-name-spec = tie.close (tie.spec returns returns-2 zero-at-requires returns-3)
+is-bad-name-spec = tie.close (tie.spec returns returns-2 (λ c κs. search needs) returns-3)

@@ -14,12 +14,6 @@ use borrow.Author.Needs.{needs}
 use Rattle.ubios.proofs.name.is_named.Statement.{statement}
 use Rattle.ubios.proofs.name.is_named.Tie as tie
 
-head-requires : tie.Need-head-requires
-head-requires c κs = search needs
-
-same-requires : tie.Need-same-requires
-same-requires c κs = search needs
-
 -- the test of the table's start
 abbrev entry : tie.After-same → tie.Start
 entry c = c .before .before .before .before
@@ -41,9 +35,6 @@ returns-2 c =
     let a = entry (at-start .before) .args in
     sym (fills (a .table .now) (a .name .now) (entry (at-start .before) .pre) (starts at-start) (c .if2 .taken))
 
-u8-at-requires : tie.Need-u8-at-requires
-u8-at-requires c κs = search needs
-
 returns-3 : tie.Need-returns-3
 returns-3 c =
     let at-start = c .before .before in
@@ -53,4 +44,4 @@ returns-3 c =
 
 pub is-named-spec : {M : Type 1} → statement M
 is-named-spec =
-    tie.close (tie.spec head-requires same-requires returns returns-2 u8-at-requires returns-3)
+    tie.close (tie.spec (λ c κs. search needs) (λ c κs. search needs) returns returns-2 (λ c κs. search needs) returns-3)

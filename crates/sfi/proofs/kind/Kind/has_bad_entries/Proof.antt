@@ -8,12 +8,6 @@ use borrow.Author.Needs.{needs}
 use Rattle.sfi.proofs.kind.Kind.has_bad_entries.Statement.{statement}
 use Rattle.sfi.proofs.kind.Kind.has_bad_entries.Tie as tie
 
-sub-if1 : tie.Need-sub-if1
-sub-if1 c = search needs
-
-rem-if1 : tie.Need-rem-if1
-rem-if1 c = search needs
-
 returns : tie.Need-returns
 returns c = sym (entries-tested _ _ (ap not (ne-eqb _ _ (c .if1 .taken))) refl refl)
 
@@ -24,4 +18,4 @@ returns-3 : tie.Need-returns-3
 returns-3 c = sym (entries-tested _ _ (ap not (eq-eqb _ _ (c .before .before .if1 .left))) (eq-eqb _ _ (c .if2 .left)) refl)
 
 pub has-bad-entries-spec : {M : Type 1} → statement M
-has-bad-entries-spec = tie.close (tie.spec sub-if1 rem-if1 returns returns-2 returns-3)
+has-bad-entries-spec = tie.close (tie.spec (λ c. search needs) (λ c. search needs) returns returns-2 returns-3)

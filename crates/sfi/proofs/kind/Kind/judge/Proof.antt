@@ -8,12 +8,6 @@ use borrow.Author.Needs.{needs}
 use Rattle.sfi.proofs.kind.Kind.judge.Statement.{statement}
 use Rattle.sfi.proofs.kind.Kind.judge.Tie as tie
 
-u8-at-requires : tie.Need-u8-at-requires
-u8-at-requires c κs = search needs
-
-has-other-revision-requires : tie.Need-has-other-revision-requires
-has-other-revision-requires c κs = search needs
-
 -- the test of Revision
 abbrev start : tie.After-has-other-revision → tie.Start
 start c = c .before .before .before
@@ -23,12 +17,6 @@ revision c = c .has-other-revision .ensures ∙ ap (wrongRevision (start c .args
 
 returns : tie.Need-returns
 returns c = sym (judged-tested _ _ refl (sym (revision (c .before)) ∙ c .if1 .taken) refl)
-
-length-of-requires : tie.Need-length-of-requires
-length-of-requires c κs = search needs
-
-has-bad-entries-requires : tie.Need-has-bad-entries-requires
-has-bad-entries-requires c κs = search needs
 
 -- past it
 listed : (c : tie.Else1) → wrongRevision (start (c .before) .args .self) (revisionOf (start (c .before) .args .header .now)) ≡ false
@@ -48,10 +36,10 @@ pub judge-spec : {M : Type 1} → statement M
 judge-spec =
     tie.close
     (tie.spec
-    u8-at-requires
-    has-other-revision-requires
+    (λ c κs. search needs)
+    (λ c κs. search needs)
     returns
-    length-of-requires
-    has-bad-entries-requires
+    (λ c κs. search needs)
+    (λ c κs. search needs)
     returns-2
     returns-3)

@@ -40,62 +40,32 @@ past-9 c = past-8 (c .before) ∙ further _ _ _ (c .if9 .left)
 past-10 : (c : tie.Else10) → kindOf (c .before .before .before .before .before .before .before .before .before .before .args .signature) ≡ among ([]) (c .before .before .before .before .before .before .before .before .before .before .args .signature)
 past-10 c = past-9 (c .before) ∙ further _ _ _ (c .if10 .left)
 
-syst-requires : tie.Need-syst-requires
-syst-requires c κs = search needs
-
 returns : tie.Need-returns
 returns c = ap Is (c .syst .ensures) ∙ sym (here _ _ _ (c .before .if1 .taken))
-
-cpus-requires : tie.Need-cpus-requires
-cpus-requires c κs = search needs
 
 returns-2 : tie.Need-returns-2
 returns-2 c = ap Is (c .cpus .ensures) ∙ sym (past-1 (c .before .before) ∙ here _ _ _ (c .before .if2 .taken))
 
-apic-requires : tie.Need-apic-requires
-apic-requires c κs = search needs
-
 returns-3 : tie.Need-returns-3
 returns-3 c = ap Is (c .apic .ensures) ∙ sym (past-2 (c .before .before) ∙ here _ _ _ (c .before .if3 .taken))
-
-mmap-requires : tie.Need-mmap-requires
-mmap-requires c κs = search needs
 
 returns-4 : tie.Need-returns-4
 returns-4 c = ap Is (c .mmap .ensures) ∙ sym (past-3 (c .before .before) ∙ here _ _ _ (c .before .if4 .taken))
 
-freq-requires : tie.Need-freq-requires
-freq-requires c κs = search needs
-
 returns-5 : tie.Need-returns-5
 returns-5 c = ap Is (c .freq .ensures) ∙ sym (past-4 (c .before .before) ∙ here _ _ _ (c .before .if5 .taken))
-
-mrtc-requires : tie.Need-mrtc-requires
-mrtc-requires c κs = search needs
 
 returns-6 : tie.Need-returns-6
 returns-6 c = ap Is (c .mrtc .ensures) ∙ sym (past-5 (c .before .before) ∙ here _ _ _ (c .before .if6 .taken))
 
-devs-requires : tie.Need-devs-requires
-devs-requires c κs = search needs
-
 returns-7 : tie.Need-returns-7
 returns-7 c = ap Is (c .devs .ensures) ∙ sym (past-6 (c .before .before) ∙ here _ _ _ (c .before .if7 .taken))
-
-gpio-requires : tie.Need-gpio-requires
-gpio-requires c κs = search needs
 
 returns-8 : tie.Need-returns-8
 returns-8 c = ap Is (c .gpio .ensures) ∙ sym (past-7 (c .before .before) ∙ here _ _ _ (c .before .if8 .taken))
 
-mtmr-requires : tie.Need-mtmr-requires
-mtmr-requires c κs = search needs
-
 returns-9 : tie.Need-returns-9
 returns-9 c = ap Is (c .mtmr .ensures) ∙ sym (past-8 (c .before .before) ∙ here _ _ _ (c .before .if9 .taken))
-
-wake-requires : tie.Need-wake-requires
-wake-requires c κs = search needs
 
 returns-10 : tie.Need-returns-10
 returns-10 c = ap Is (c .wake .ensures) ∙ sym (past-9 (c .before .before) ∙ here _ _ _ (c .before .if10 .taken))
@@ -107,24 +77,24 @@ pub of-spec : {M : Type 1} → statement M
 of-spec =
     tie.close
     (tie.spec
-    syst-requires
+    (λ c κs. search needs)
     returns
-    cpus-requires
+    (λ c κs. search needs)
     returns-2
-    apic-requires
+    (λ c κs. search needs)
     returns-3
-    mmap-requires
+    (λ c κs. search needs)
     returns-4
-    freq-requires
+    (λ c κs. search needs)
     returns-5
-    mrtc-requires
+    (λ c κs. search needs)
     returns-6
-    devs-requires
+    (λ c κs. search needs)
     returns-7
-    gpio-requires
+    (λ c κs. search needs)
     returns-8
-    mtmr-requires
+    (λ c κs. search needs)
     returns-9
-    wake-requires
+    (λ c κs. search needs)
     returns-10
     returns-11)
