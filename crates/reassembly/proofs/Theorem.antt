@@ -97,10 +97,10 @@ module _ (us room : ℕ) where
   fresh-ready : (b : List ℕ) → length b ≡ room → Ready Fresh b
   fresh-ready b e = (e, fresh room)
 
-  -- a message, and what follows it: of what this one can leave, `Next` holds
+  -- a message, and what follows it: of what this one can leave, if it was begun, `Next` holds
   module _ (m : Message) (fits : Fits (envelopeFor us m)) (bounded : length (m .bytes) ≤ messageMax) (held : length (m .bytes) ≤ room)
       (rest : List (List ℕ)) (E : List (Option HandedUp)) (Next : State → Type 0) (continues : Continues Next rest E)
-      (next-fresh : Next Fresh) (next-open : (i filled : ℕ) → Next (waiting (sentWords m) i filled)) where
+      (next-fresh : Next Fresh) (Begun : Type 0) (next-open : Begun → (i filled : ℕ) → Next (waiting (sentWords m) i filled)) where
     abbrev total : ℕ
     total = length (m .bytes)
 
@@ -160,7 +160,7 @@ module _ (us room : ℕ) where
         (len, by-room _ (record { words = words; next = i; filled = filled }) room refl positive order less bounded ∙ le-leb total room held)
 
     -- the frame waited for comes, and what is left is as on track; or it is lost
-    next-frame : (s : Sent) (ss : List Sent) (i filled : ℕ) (b : List ℕ) → Ready (waiting words (suc i) filled) b
+    next-frame : Begun → (s : Sent) (ss : List Sent) (i filled : ℕ) (b : List ℕ) → Ready (waiting words (suc i) filled) b
         → suc i + length (flatten (pieces (s ∷ ss))) ≤ messageMax
         → All Piece (pieces (s ∷ ss))
         → All (λ s. All (PutIn us) (s .before)) (s ∷ ss)
@@ -168,16 +168,16 @@ module _ (us room : ℕ) where
         → (a : Bool)
         → run us (waiting words (suc i) filled) b (arrived a (frameOf (headerFor e total (suc i)) (s .piece)) ++ from (suc (suc i)) ss)
         ≡ cond a (ifLast ss (cond (a && allArrive ss) (some (asSent m)) none) ∷ []) [] ++ give (cond (a && allArrive ss) (some (asSent m)) none) ss
-    next-frame s ss i filled b r short ps js then true =
+    next-frame begun s ss i filled b r short ps js then true =
         let h = headerFor e total (suc i) in
         let st = waiting words (suc i) filled in
         let stepped = later us st b (ready st b r) e fits refl total bounded (s .piece) (ps .0 .1) i (omega (arith, long s ss)) in
         run-step us st b (frameOf h (s .piece)) _ _ (stepped ∙ in-order h (s .piece) b filled) ∙ then
-    next-frame s ss i filled b r short ps js then false =
-        lost ss (suc i) (omega (arith, long s ss, ps .0 .0)) (ps .1) (js .1) (waiting words (suc i) filled) b r (next-open (suc i) filled) (λ same. omega arith)
+    next-frame begun s ss i filled b r short ps js then false =
+        lost ss (suc i) (omega (arith, long s ss, ps .0 .0)) (ps .1) (js .1) (waiting words (suc i) filled) b r (next-open begun (suc i) filled) (λ same. omega arith)
 
     -- on track: the data p of the frame with Index i is to be accepted
-    accepted : (ss : List Sent) (i filled : ℕ) (p b : List ℕ)
+    accepted : Begun → (ss : List Sent) (i filled : ℕ) (p b : List ℕ)
         → length b ≡ room
         → i ≤ filled
         → filled ≤ room
@@ -187,7 +187,7 @@ module _ (us room : ℕ) where
         → All (λ s. All (PutIn us) (s .before)) ss
         → after us (accept words i filled p b) (from (suc i) ss) ≡ ifLast ss (up ss) ∷ give (up ss) ss
     unfolding callsFrom expectedFrom flatten allArrive
-    accepted [] i filled p b len order inside some-data joins ps js =
+    accepted begun [] i filled p b len order inside some-data joins ps js =
         let so-far : filled + length p ≡ total = omega (arith, simp (length-append, length-take) at (ap length joins)) in
         let room-left : filled + length p ≤ length b = omega arith in
         let b′ = landed filled p b in
@@ -196,7 +196,7 @@ module _ (us room : ℕ) where
         ap (λ (bytes : List ℕ). some (record { words = words; length = total; bytes = bytes })) bytes-are in
         rw (fitting words i filled p b (omega arith) some-data ∙ whole words i (filled + length p) b′ so-far)
         (ap₂ _∷_ handed (continues Fresh b′ (fresh-ready b′ (length-landed filled p b room-left ∙ len)) next-fresh))
-    accepted (s ∷ ss) i filled p b len order inside some-data joins ps js =
+    accepted begun (s ∷ ss) i filled p b len order inside some-data joins ps js =
         let in-all : filled + (length p + length (flatten (pieces (s ∷ ss)))) ≡ total =
         omega (arith, long s ss, simp (length-append, length-take) at (ap length joins)) in
         let last = long s ss in
@@ -208,11 +208,11 @@ module _ (us room : ℕ) where
         let r′ = waiting-ready (suc i) filled′ b′ len′ (omega arith) (omega arith) (omega arith) in
         let joins′ : take filled′ b′ ++ (s .piece ++ flatten (pieces ss)) ≡ m .bytes =
         rw (start-landed filled p b room-left, append-assoc (take filled b) p) joins in
-        let then = accepted ss (suc i) filled′ (s .piece) b′ len′ (omega arith) (omega arith) (λ z. absurd (omega arith)) joins′ (ps .1) (js .1) in
+        let then = accepted begun ss (suc i) filled′ (s .piece) b′ len′ (omega arith) (omega arith) (λ z. absurd (omega arith)) joins′ (ps .1) (js .1) in
         rw (fitting words i filled p b (omega arith) some-data ∙ not-whole words i filled′ b′ (λ z. omega arith))
         (ap (λ (l : List (Option HandedUp)). none ∷ l)
         (frame-then (up (s ∷ ss)) (suc i) s ss (js .0) (waiting words (suc i) filled′) b′ r′
-        (next-frame s ss i filled′ b′ r′ (omega arith) ps js then (s .arrives))))
+        (next-frame begun s ss i filled′ b′ r′ (omega arith) ps js then (s .arrives))))
 
     -- the facts of a message's cut that its first frame needs
     abbrev Starts : List ℕ → List ℕ → List (List ℕ) → Type 0
@@ -227,11 +227,11 @@ module _ (us room : ℕ) where
     starts (x ∷ xs) p ps cut = (cut .1, cut .0 .0 .1, (λ z. absurd (omega (arith, cut .0 .0 .0))), cut .0 .1)
 
     -- where the first frame is lost, what is open can be taken neither for this message nor for one that follows
-    one-message : (ss : List Sent) → Cut (m .bytes) (pieces ss) → All (λ s. All (PutIn us) (s .before)) ss
+    one-message : (ss : List Sent) → (FirstArrives ss → Begun) → Cut (m .bytes) (pieces ss) → All (λ s. All (PutIn us) (s .before)) ss
         → (st : State) (b : List ℕ) → Ready st b → (FirstLost ss → Next st × Off words 1 st) → run us st b (from 0 ss) ≡ give (up ss) ss
     unfolding allArrive
-    one-message [] cut js st b r if-lost = absurd (starts-somewhere (m .bytes) cut)
-    one-message (s ∷ ss) cut js st b r if-lost = frame-then (up (s ∷ ss)) 0 s ss (js .0) st b r (go (s .arrives) refl)
+    one-message [] begins cut js st b r if-lost = absurd (starts-somewhere (m .bytes) cut)
+    one-message (s ∷ ss) begins cut js st b r if-lost = frame-then (up (s ∷ ss)) 0 s ss (js .0) st b r (go (s .arrives) refl)
       where
         go : (a : Bool) → s .arrives ≡ a → run us st b (arrived a (frameOf (headerFor e total 0) (s .piece)) ++ from 1 ss)
             ≡ cond a (ifLast ss (cond (a && allArrive ss) (some (asSent m)) none) ∷ []) [] ++ give (cond (a && allArrive ss) (some (asSent m)) none) ss
@@ -239,7 +239,7 @@ module _ (us room : ℕ) where
             let known = starts (m .bytes) (s .piece) (pieces ss) cut in
             let stepped = first us st b (ready st b r) e fits refl total bounded (s .piece) (known .1) (rw (r .0) held) in
             run-step us st b (frameOf (headerFor e total 0) (s .piece)) _ _ stepped
-            ∙ accepted ss 0 0 (s .piece) b (r .0) (omega arith) (omega arith) (known .2) (known .0) (known .3) (js .1)
+            ∙ accepted (begins q) ss 0 0 (s .piece) b (r .0) (omega arith) (omega arith) (known .2) (known .0) (known .3) (js .1)
         go false q =
             let known = starts (m .bytes) (s .piece) (pieces ss) cut in
             let short : length (flatten (pieces ss)) ≤ total = omega (arith, simp length-append at (ap length (known .0))) in
@@ -253,7 +253,7 @@ module _ (us room : ℕ) where
   all-messages (t ∷ ts) framed told js h st b r next =
       let l = framed .0 in
       one-message (t .message) (l .words) (l .bounded) (l .fits) (callsOf us ts js) (expectedOf ts js) (Apart ts) (all-messages ts (framed .1) (told .1) js h)
-      tt (λ i filled. told .0) (t .frames) (l .cut) (l .put-in) st b r (if-first-lost t ts st next)
+      tt (FirstArrives (t .frames)) (λ begun i filled. told .0 begun) (t .frames) (λ begun. begun) (l .cut) (l .put-in) st b r (if-first-lost t ts st next)
 
 pub any-loss : AnyLoss
 any-loss us buffer t legal =
@@ -270,7 +270,7 @@ unlike-any us room (t ∷ ts) legal w = λ lost. absurd (first-not-lost (t .fram
 
 pub told-apart : (us room : ℕ) (ts : List Transmission) → All (Legal us room) ts → ToldApart ts
 told-apart us room [] legal = tt
-told-apart us room (t ∷ ts) legal = (unlike-any us room ts (legal .1) (sentWords (t .message)), told-apart us room ts (legal .1))
+told-apart us room (t ∷ ts) legal = ((λ begun. unlike-any us room ts (legal .1) (sentWords (t .message))), told-apart us room ts (legal .1))
 
 pub all-framed : (us room : ℕ) (ts : List Transmission) → All (Legal us room) ts → All (Framed us room) ts
 all-framed us room [] legal = tt

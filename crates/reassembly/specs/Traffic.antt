@@ -80,15 +80,15 @@ abbrev pub FirstLost : List Sent → Type 0
 FirstLost [] = ⊥
 FirstLost (s ∷ ss) = s .arrives ≡ false
 
--- no message up to the next one whose first frame arrives can be taken for one with these words
+-- of the messages up to the next one whose Index 0 frame arrives, none has these words
 abbrev pub Unlike : Words → List Transmission → Type 0
 Unlike w [] = Unit {0}
 Unlike w (t ∷ ts) = FirstLost (t .frames) → (w ≡ sentWords (t .message) → ⊥) × Unlike w ts
 
--- messages that are told apart by their carried words wherever an Index 0 frame that is lost leaves nothing else to tell them by
+-- a message whose Index 0 frame is lost has other carried words than the last one whose Index 0 frame arrived
 abbrev pub ToldApart : List Transmission → Type 0
 ToldApart [] = Unit {0}
-ToldApart (t ∷ ts) = Unlike (sentWords (t .message)) ts × ToldApart ts
+ToldApart (t ∷ ts) = (FirstArrives (t .frames) → Unlike (sentWords (t .message)) ts) × ToldApart ts
 
 -- traffic of which any frame may be taken out
 pub record ApartTraffic (us room : ℕ) (t : Traffic) : Type 0 where
