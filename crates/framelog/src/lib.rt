@@ -109,7 +109,7 @@ pub fn frame(slice: &[u8]) -> &[u8]
     }
 }
 
-// Lays a frame's length at the start of a record, in the header's four bytes, and the frame behind them.
+// Lays a frame's length in the header's four bytes, of which the last two are the zeros, and the frame behind them.
 fn fill(frame: &[u8], built: &mut [u8])
     requires { ⌜ headerSize + length (now frame) ≤ length (now built) ⌝ }
     ensures { λ _. ⌜ now (built .exit) ≡ filled (now (frame .entry)) (now (built .entry)) ⌝ }
