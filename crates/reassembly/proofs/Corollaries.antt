@@ -141,13 +141,13 @@ untouched-are [] = refl
 untouched-are (s ∷ ss) = ap (λ (l : List Sent). record { before = []; piece = s .piece; arrives = true } ∷ l) (untouched-are ss)
 
 pub sent-is-framed : SentIsFramed
-sent-is-framed us room t legal =
+sent-is-framed us t bounded cut =
     let e = envelopeFor us (t .message) in
     let total = length (t .message .bytes) in
     record {
       pieces = map (λ s. s .piece) (t .frames);
-      bounded = legal .framed .bounded;
-      cut = legal .framed .cut;
+      bounded = bounded;
+      cut = cut;
       frames-are = ap (callsFrom e total 0) (untouched-are (t .frames)) ∙ calls-sent e total 0 (map (λ s. s .piece) (t .frames));
     }
 

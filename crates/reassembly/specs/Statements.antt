@@ -7,7 +7,8 @@ use mathlib.Core.Path.{_≡_}
 use mathlib.Core.List.{List, [], _∷_, _++_, map, flatten}
 use mathlib.Core.Option.{Option, none, some}
 use lib.ListN.{length, take, replicate}
-use Rattle.frame.specs.Framing.{All, Framing}
+use Rattle.frame.specs.Layout.{messageMax}
+use Rattle.frame.specs.Framing.{All, Cut, Framing}
 use Rattle.frame.specs.Reading as Reading
 use Rattle.frame.specs.Reading.{parsed}
 use Rattle.frame.specs.Statements.{Fits, countUp}
@@ -71,14 +72,16 @@ pub record Unreadable (us : ℕ) (frame : List ℕ) : Type 0 where
 abbrev pub PutInExactly : Type 0
 PutInExactly = (us : ℕ) (frame : List ℕ) → (PutIn us frame → Unreadable us frame) × (Unreadable us frame → PutIn us frame)
 
--- `sent-is-framed`. What is sent is a framing in the sense of `frame`: of a legal transmission the calls, had nothing been taken out or put in, are one.
+-- `sent-is-framed`. What is sent is a framing in the sense of `frame`: of a message that is bounded and cut, as `Framed` has it, the calls, had nothing been
+-- taken out or put in, are one.
 abbrev pub untouched : List Sent → List Sent
 untouched ss = map (λ s. record { before = []; piece = s .piece; arrives = true }) ss
 
 abbrev pub SentIsFramed : Type 0
 SentIsFramed =
-    (us room : ℕ) (t : Transmission)
-    → Legal us room t
+    (us : ℕ) (t : Transmission)
+    → length (t .message .bytes) ≤ messageMax
+    → Cut (t .message .bytes) (map (λ s. s .piece) (t .frames))
     → Framing (envelopeFor us (t .message)) (t .message .bytes)
     (callsFrom (envelopeFor us (t .message)) (length (t .message .bytes)) 0 (untouched (t .frames)))
 

@@ -1,5 +1,5 @@
 -- Demand 3's traffic: "any list of messages for us .. framed by the rules and sent one after another", with frames taken out "except those with
--- Index 0", and frames put in "anywhere" of which a condition 1 to 4 holds.
+-- Index 0", and frames put in "anywhere" of which a condition 1 to 4 holds. And the same with any frame taken out, where messages are told apart.
 -- Assumes nothing.
 use Prim.Native.Nat.{ℕ, suc, _≤_}
 use mathlib.Core.Bool.{Bool, true, false, cond, not, _&&_, _||_}

@@ -9,6 +9,7 @@ ghost use Prim.Native.Nat.{_≤_, _<_};
 ghost use lib.ListN.{length};
 ghost use Rattle.frame.specs.Layout.{messageMax};
 ghost use Rattle.frame.specs.declared.read.Parsed.the-variants as Read;
+ghost use Rattle.reassembly.specs.Helpers.{unreadOf};
 ghost use Rattle.reassembly.specs.Step.{numberOf, consistent, sameWords, stateAfter, refusal, waiting, lacksData, accept, begin, proceed, routed, received, stepOf};
 
 // A message that is open: its carried words, the Index that comes next, and how many of its bytes stand
@@ -225,6 +226,16 @@ fn continue_message(h: Header, piece: &[u8], state: State, buf: &mut [u8]) -> An
     accept_data(words, open.next, open.filled, piece, buf)
 }
 
+// Why a frame did not parse. It is called only for one that did not; `let .. else` does not say so.
+fn unread(parsed: Parsed) -> Reason
+    ensures { λ r. ⌜ r ≡ unreadOf parsed ⌝ }
+{
+    match parsed {
+        Parsed::Refused(reason) => Reason::Unread(reason),
+        Parsed::Header(_) => Reason::Unread(frame::read::Reason::FrameShort),
+    }
+}
+
 // A frame that parsed, by its Index.
 fn route(h: Header, piece: &[u8], state: State, buf: &mut [u8]) -> Answer
     requires { ⌜ consistent state (length (now buf)) ≡ true ⌝ }
@@ -247,10 +258,10 @@ pub fn receive(read: Parsed, piece: &[u8], state: State, buf: &mut [u8]) -> Answ
     if !is_consistent(state, buf.len()) {
         return refuse(Reason::BadState, state);
     }
-    match read {
-        Parsed::Refused(reason) => refuse(Reason::Unread(reason), state),
-        Parsed::Header(h) => route(h, piece, state, buf),
-    }
+    let Parsed::Header(h) = read else {
+        return refuse(unread(read), state);
+    };
+    route(h, piece, state, buf)
 }
 
 // One call: a frame, for the receiver `us`.
