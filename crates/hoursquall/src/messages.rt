@@ -1,6 +1,6 @@
 // Messages, taken in frame by frame.
-use crate::state::block_after;
 use crate::state::state_of;
+use crate::state::write_block;
 use reassembly::Answer;
 use reassembly::Verdict;
 ghost use mathlib.Core.Path.{_≡_};
@@ -36,7 +36,7 @@ fn tell(answer: Answer, state: &mut [u64; 7], words: &mut [u32; 4]) -> u32
     let verdict = answer.verdict;
     let next = answer.state;
     let number = tell_verdict(verdict, words);
-    *state = block_after(number, next, *state);
+    write_block(number, next, state);
     number
 }
 

@@ -3,7 +3,7 @@ use frame::Words;
 use reassembly::Progress;
 use reassembly::State;
 ghost use mathlib.Core.Path.{_≡_};
-ghost use Rattle.hoursquall.specs.Reassembly.{noState, openOf, stateOf, blockOf, blockAfter};
+ghost use Rattle.hoursquall.specs.Reassembly.{noState, openOf, stateOf, blockOf, isUnread, blockAfter};
 
 const WORD_MAX: u64 = 0xFFFF_FFFF;
 
@@ -88,15 +88,21 @@ fn block_of(state: State) -> [u64; 7]
     }
 }
 
-// The block after an answer: a frame that is not read, 1 to 4, leaves it as it was lent.
-pub(crate) fn block_after(number: u32, state: State, before: [u64; 7]) -> [u64; 7]
-    ensures { λ r. ⌜ r ≡ blockAfter number state before ⌝ }
+// Whether a number is that of a frame that is not read.
+fn is_unread(number: u32) -> bool
+    ensures { λ r. ⌜ r ≡ isUnread number ⌝ }
 {
     if number < 1 {
-        return block_of(state);
+        return false;
     }
-    if 4 < number {
-        return block_of(state);
+    number <= 4
+}
+
+// Writes the state after an answer to its block. A frame that is not read leaves the block as it was lent.
+pub(crate) fn write_block(number: u32, next: State, block: &mut [u64; 7])
+    ensures { λ _. ⌜ now (block .exit) ≡ blockAfter number next (now (block .entry)) ⌝ }
+{
+    if !is_unread(number) {
+        *block = block_of(next);
     }
-    before
 }
