@@ -13,12 +13,13 @@ use Rattle.frame.specs.declared.Header.{Header}
 use Rattle.frame.specs.declared.Words.{Words}
 use Rattle.frame.specs.declared.read.Parsed.{Parsed}
 use Rattle.frame.specs.declared.read.Parsed.the-variants as Parsed
+use Rattle.frame.specs.declared.read.Reason.{Reason as ReadReason}
 use Rattle.reassembly.specs.Step.{Stepped, consistent, sameWords, refused, landed, delivered, wanting, taken, lacksData, isNext, isFirst, accept, begin, proceed, routed, received}
 use Rattle.reassembly.specs.declared.Answer.{Answer}
 use Rattle.reassembly.specs.declared.Progress.{Progress}
 use Rattle.reassembly.specs.declared.State.{State}
 use Rattle.reassembly.specs.declared.State.the-variants.{Fresh, Open}
-use Rattle.reassembly.specs.declared.Reason.the-variants.{NothingOpen, OutOfOrder, OtherWords, NoData, TooMuchData, MessageLong, BadState}
+use Rattle.reassembly.specs.declared.Reason.the-variants.{Unread, NothingOpen, OutOfOrder, OtherWords, NoData, TooMuchData, MessageLong, BadState}
 
 -- an answer and a buffer that are those of a step's law are those of the step
 pub as-in : (st law : Stepped) (answer : Answer) (buffer : List ℕ) → st ≡ law → answer ≡ law .answer → buffer ≡ law .buffer
@@ -134,20 +135,24 @@ module _ (h : Header) (p : List ℕ) (s : State) (b : List ℕ) where
     unfolding proceed
     goes-on i w = rw (is-open, i, w)
 
--- by the Index
-module _ (h : Header) (p : List ℕ) (s : State) (b : List ℕ) where
-  pub index-zero : isFirst h ≡ true → routed (Parsed.Header h) p s b ≡ begin (h .words) p b
-  index-zero i = rw i
-
-  pub index-more : isFirst h ≡ false → routed (Parsed.Header h) p s b ≡ proceed h p s b
-  index-more i = rw i
-
--- 11, and what is looked at then
+-- 1 to 4, by the Index, and 11 before all
 module _ (r : Parsed) (p : List ℕ) (s : State) (b : List ℕ) where
+  pub unread-frame : (reason : ReadReason) → r ≡ Parsed.Refused reason → routed r p s b ≡ refused (Unread reason) s b
+  unfolding routed
+  unread-frame reason e = rw e
+
+  pub index-zero : (h : Header) → r ≡ Parsed.Header h → isFirst h ≡ true → routed r p s b ≡ begin (h .words) p b
+  unfolding routed
+  index-zero h e i = rw (e, i)
+
+  pub index-more : (h : Header) → r ≡ Parsed.Header h → isFirst h ≡ false → routed r p s b ≡ proceed h p s b
+  unfolding routed
+  index-more h e i = rw (e, i)
+
   pub bad-state : consistent s (length b) ≡ false → received r p s b ≡ refused BadState s b
   unfolding received
   bad-state h = rw h
 
-  pub good-state : consistent s (length b) ≡ true → (q : Parsed) → r ≡ q → received r p s b ≡ routed q p s b
+  pub good-state : consistent s (length b) ≡ true → received r p s b ≡ routed r p s b
   unfolding received
-  good-state h q e = rw (h, e)
+  good-state h = rw h

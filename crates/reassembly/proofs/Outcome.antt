@@ -30,7 +30,7 @@ use Rattle.reassembly.specs.declared.Reason.{Reason}
 use Rattle.reassembly.specs.declared.Reason.the-variants.{Unread, NothingOpen, OutOfOrder, OtherWords, NoData, TooMuchData, MessageLong, BadState}
 use Rattle.reassembly.specs.declared.Verdict.{Verdict}
 use Rattle.reassembly.specs.declared.Verdict.the-variants.{Refused}
-use Rattle.reassembly.proofs.Answers.{fresh, by-room, consistent-open, lacking, excess, data-taken, whole, not-whole, over-limit, over-buffer, begins, none-open, other-index, other-words, goes-on, index-zero, index-more, bad-state, good-state}
+use Rattle.reassembly.proofs.Answers.{fresh, by-room, consistent-open, lacking, excess, data-taken, whole, not-whole, over-limit, over-buffer, begins, none-open, other-index, other-words, goes-on, unread-frame, index-zero, index-more, bad-state, good-state}
 use Rattle.reassembly.proofs.Steps.{length-landed, start-landed}
 
 -- where the words, the Index and how many bytes are filled come from: a frame that begins a message, or what is open
@@ -122,15 +122,16 @@ proceeding us (Open q) room f h ok steps = by-index (isNext h q) refl
 pub outcome : (us : ℕ) (s : State) (room : ℕ) (f : List ℕ) → Outcome us s room f
 outcome us s room f = by-state (consistent s room) refl
   where
-    read-as : consistent s room ≡ true → (r : Parsed) → parsed us f ≡ r → Steps us s room f (routed r (dataOf f) s)
-    read-as ok r q b len = good-state (parsed us f) (dataOf f) s b (rw len ok) r q
+    looked-at : consistent s room ≡ true → Steps us s room f (routed (parsed us f) (dataOf f) s)
+    looked-at ok b len = good-state (parsed us f) (dataOf f) s b (rw len ok)
 
     by-index : consistent s room ≡ true → (h : Header) → parsed us f ≡ Parsed.Header h → (anew : Bool) → isFirst h ≡ anew → Outcome us s room f
-    by-index ok h q true e = beginning us s room f h q (λ b len. read-as ok _ q b len ∙ index-zero h (dataOf f) s b e)
-    by-index ok h q false e = proceeding us s room f h ok (λ b len. read-as ok _ q b len ∙ index-more h (dataOf f) s b e)
+    by-index ok h q true e = beginning us s room f h q (λ b len. looked-at ok b len ∙ index-zero (parsed us f) (dataOf f) s b h q e)
+    by-index ok h q false e = proceeding us s room f h ok (λ b len. looked-at ok b len ∙ index-more (parsed us f) (dataOf f) s b h q e)
 
     by-header : consistent s room ≡ true → (r : Parsed) → parsed us f ≡ r → Outcome us s room f
-    by-header ok (Parsed.Refused reason) q = refuses (Unread reason) (λ z. apart (cc)) (read-as ok _ q)
+    by-header ok (Parsed.Refused reason) q =
+        refuses (Unread reason) (λ z. apart (cc)) (λ b len. looked-at ok b len ∙ unread-frame (parsed us f) (dataOf f) s b reason q)
     by-header ok (Parsed.Header h) q = by-index ok h q _ refl
 
     by-state : (ok : Bool) → consistent s room ≡ ok → Outcome us s room f

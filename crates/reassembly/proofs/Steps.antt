@@ -2,7 +2,7 @@
 -- Assumes nothing.
 use Prim.Native.Nat.{ℕ, suc, _+_, _≤_, _<_}
 use mathlib.Core.Bool.{Bool, true, false, cond, not, _||_}
-use mathlib.Core.Path.{_≡_, refl, sym, ap, _∙_}
+use mathlib.Core.Path.{_≡_, refl, sym, ap, ap₂, _∙_}
 use mathlib.Core.List.{List, _++_, append-assoc}
 use borrow.Author.Tests.{eq-eqb, ne-eqb, eqb-true}
 use native.Mathlib.Omega.{arith}
@@ -31,7 +31,7 @@ use Rattle.reassembly.specs.declared.State.the-variants.{Fresh, Open}
 use Rattle.reassembly.specs.declared.Reason as R
 use Rattle.reassembly.specs.declared.Reason.the-variants.{Unread, NothingOpen, OutOfOrder, OtherWords}
 use Rattle.reassembly.specs.declared.Verdict.the-variants.{Refused}
-use Rattle.reassembly.proofs.Answers.{data-taken, begins, none-open, other-index, other-words, goes-on, good-state, index-zero, index-more}
+use Rattle.reassembly.proofs.Answers.{data-taken, begins, none-open, other-index, other-words, goes-on, unread-frame, index-zero, index-more, good-state}
 
 -- a frame of which a condition 1 to 4 holds does not parse, and of each that does not one holds
 module _ (us : ℕ) (f : List ℕ) where
@@ -70,7 +70,7 @@ module _ (us : ℕ) (s : State) (b : List ℕ) (ok : consistent s (length b) ≡
   pub put-in : (f : List ℕ) → PutIn us f → (reason : Reason) × (stepOf us s b f ≡ refused (Unread reason) s b)
   put-in f h =
       let r = unread us f h in
-      (r .0, good-state (parsed us f) (dataOf f) s b ok (Parsed.Refused (r .0)) (r .1))
+      (r .0, good-state (parsed us f) (dataOf f) s b ok ∙ unread-frame (parsed us f) (dataOf f) s b (r .0) (r .1))
 
   -- a frame of a message for us goes by its Index
   module _ (e : Envelope) (fits : Fits e) (ours : e .receiver ≡ us) (total : ℕ) (bounded : total ≤ messageMax) (p : List ℕ) (small : length p ≤ pieceMax) where
@@ -79,14 +79,14 @@ module _ (us : ℕ) (s : State) (b : List ℕ) (ok : consistent s (length b) ≡
         let h = headerFor e total i in
         let parses : parsed us (frameOf h p) ≡ Parsed.Header h = rw (← ours) (frame-read e fits total i (omega arith) (omega arith) p small) in
         let piece-of : dataOf (frameOf h p) ≡ p = drop-at (headerBytes h) p headerSize (length-header h) in
-        good-state (parsed us (frameOf h p)) (dataOf (frameOf h p)) s b ok (Parsed.Header h) parses ∙ ap (λ (d : List ℕ). routed (Parsed.Header h) d s b) piece-of
+        good-state (parsed us (frameOf h p)) (dataOf (frameOf h p)) s b ok ∙ ap₂ (λ (r : Parsed) (d : List ℕ). routed r d s b) parses piece-of
 
     pub first : total ≤ length b → stepOf us s b (frameOf (headerFor e total 0) p) ≡ accept (headerFor e total 0 .words) 0 0 p b
-    first room = let h = headerFor e total 0 in read 0 (omega arith) ∙ index-zero h p s b refl ∙ begins (h .words) p b bounded room
+    first room = let h = headerFor e total 0 in read 0 (omega arith) ∙ index-zero _ p s b h refl refl ∙ begins (h .words) p b bounded room
 
     pub later : (i : ℕ) → suc i ≤ messageMax
         → stepOf us s b (frameOf (headerFor e total (suc i)) p) ≡ proceed (headerFor e total (suc i)) p s b
-    later i i-fits = let h = headerFor e total (suc i) in read (suc i) i-fits ∙ index-more h p s b (ne-eqb (suc i) 0 (λ z. omega arith))
+    later i i-fits = let h = headerFor e total (suc i) in read (suc i) i-fits ∙ index-more _ p s b h refl (ne-eqb (suc i) 0 (λ z. omega arith))
 
 -- the Index that comes next, with the same words, is accepted
 pub in-order : (h : Header) (p b : List ℕ) (filled : ℕ) → proceed h p (waiting (h .words) (h .index) filled) b ≡ accept (h .words) (h .index) filled p b

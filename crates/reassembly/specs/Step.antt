@@ -130,7 +130,7 @@ abbrev pub isFirst : Header → Bool
 isFirst h = eqb (h .index) 0
 
 -- 1 to 4, then by the Index
-abbrev pub routed : Parsed → List ℕ → State → List ℕ → Stepped
+unfoldable pub routed : Parsed → List ℕ → State → List ℕ → Stepped
 routed (Parsed.Refused reason) piece state buffer = refused (Unread reason) state buffer
 routed (Parsed.Header h) piece state buffer = cond (isFirst h) (begin (h .words) piece buffer) (proceed h piece state buffer)
 

@@ -8,7 +8,6 @@ ghost use mathlib.Core.Bool.{true};
 ghost use Prim.Native.Nat.{_≤_, _<_};
 ghost use lib.ListN.{length};
 ghost use Rattle.frame.specs.Layout.{messageMax};
-ghost use Rattle.frame.specs.declared.read.Parsed.the-variants as Read;
 ghost use Rattle.reassembly.specs.Helpers.{unreadOf};
 ghost use Rattle.reassembly.specs.Step.{numberOf, consistent, sameWords, stateAfter, refusal, waiting, lacksData, accept, begin, proceed, routed, received, stepOf};
 
@@ -236,21 +235,23 @@ fn unread(parsed: Parsed) -> Reason
     }
 }
 
-// A frame that parsed, by its Index.
-fn route(h: Header, piece: &[u8], state: State, buf: &mut [u8]) -> Answer
+// What the reader answers of a frame, and the frame's data, where the state is fresh or consistent.
+fn route(read: Parsed, piece: &[u8], state: State, buf: &mut [u8]) -> Answer
     requires { ⌜ consistent state (length (now buf)) ≡ true ⌝ }
-    ensures { λ r. ⌜ r ≡ routed (Read.Header h) (now (piece .entry)) state (now (buf .entry)) .answer ⌝ }
-    ensures { λ _. ⌜ now (buf .exit) ≡ routed (Read.Header h) (now (piece .entry)) state (now (buf .entry)) .buffer ⌝ }
+    ensures { λ r. ⌜ r ≡ routed read (now (piece .entry)) state (now (buf .entry)) .answer ⌝ }
+    ensures { λ _. ⌜ now (buf .exit) ≡ routed read (now (piece .entry)) state (now (buf .entry)) .buffer ⌝ }
 {
+    let Parsed::Header(h) = read else {
+        return refuse(unread(read), state);
+    };
     if h.index == 0 {
         return begin_message(h.words, piece, buf);
     }
     continue_message(h, piece, state, buf)
 }
 
-// What the reader answers of a frame, and the frame's data. Any state is answered; one that is neither fresh
-// nor consistent gets 11. Accepted data lands in the buffer from the first unfilled byte on; a refusal changes
-// no byte.
+// The same for any state: one that is neither fresh nor consistent gets 11. Accepted data lands in the buffer from
+// the first unfilled byte on; a refusal changes no byte.
 pub fn receive(read: Parsed, piece: &[u8], state: State, buf: &mut [u8]) -> Answer
     ensures { λ r. ⌜ r ≡ received read (now (piece .entry)) state (now (buf .entry)) .answer ⌝ }
     ensures { λ _. ⌜ now (buf .exit) ≡ received read (now (piece .entry)) state (now (buf .entry)) .buffer ⌝ }
@@ -258,18 +259,19 @@ pub fn receive(read: Parsed, piece: &[u8], state: State, buf: &mut [u8]) -> Answ
     if !is_consistent(state, buf.len()) {
         return refuse(Reason::BadState, state);
     }
-    let Parsed::Header(h) = read else {
-        return refuse(unread(read), state);
-    };
-    route(h, piece, state, buf)
+    route(read, piece, state, buf)
 }
 
-// One call: a frame, for the receiver `us`.
+// One call: a frame, for the receiver `us`, received as the reader answers it. The state is tested first, so that
+// the words of a frame and of a state are compared where they stand.
 pub fn step(state: State, frame: &[u8], us: u32, buf: &mut [u8]) -> Answer
     ensures { λ r. ⌜ r ≡ stepOf us state (now (buf .entry)) (now (frame .entry)) .answer ⌝ }
     ensures { λ _. ⌜ now (buf .exit) ≡ stepOf us state (now (buf .entry)) (now (frame .entry)) .buffer ⌝ }
 {
+    if !is_consistent(state, buf.len()) {
+        return refuse(Reason::BadState, state);
+    }
     let read = frame::read::parse(frame, us);
     let piece = frame::read::data(frame);
-    receive(read, piece, state, buf)
+    route(read, piece, state, buf)
 }

@@ -1,10 +1,7 @@
 -- `reassembly::receive` meets its contract: 11, else by what the reader answered.
 -- Assumes nothing.
-use mathlib.Core.Path.{refl, sym, ap, _∙_}
+use mathlib.Core.Path.{refl, sym, _∙_}
 use borrow.Author.Tests.{not-true, not-false}
-use Rattle.reassembly.specs.Step.{refusal}
-use Rattle.reassembly.specs.Helpers.{unreadOf}
-use Rattle.reassembly.specs.declared.Reason.{Reason}
 use Rattle.reassembly.proofs.Answers.{as-in, bad-state, good-state}
 use borrow.Author.Needs.{needs}
 use Rattle.reassembly.proofs.receive.Statement.{statement}
@@ -13,35 +10,14 @@ use Rattle.reassembly.proofs.receive.Tie as tie
 returns : tie.Need-returns
 returns c = as-in _ _ _ _ (bad-state _ _ _ _ (sym (c .before .before .is-consistent .ensures) ∙ not-true _ (c .before .if1 .taken))) (c .refuse .ensures) refl
 
+route-requires : tie.Need-route-requires
+route-requires c κs = sym (c .before .before .is-consistent .ensures) ∙ not-false _ (c .before .if1 .left)
+
 returns-2 : tie.Need-returns-2
 returns-2 c =
-    let args = c .before .before .before .before .before .before .before .before .args in
     let ok = sym (c .before .before .before .before .before .is-consistent .ensures) ∙ not-false _ (c .before .before .before .before .if1 .left) in
-    let told = c .before .before .enum-told .given .1 in
-    let reason-is = c .before .unread .ensures ∙ ap unreadOf told in
-    as-in _ _ _ _ (good-state _ _ _ _ ok _ told) (c .refuse2 .ensures ∙ ap (λ (r : Reason). refusal r (args .state)) reason-is) refl
-
-route-requires : tie.Need-route-requires
-route-requires c κs = sym (c .before .before .before .before .before .is-consistent .ensures) ∙ not-false _ (c .before .before .before .before .if1 .left)
-
-returns-3 : tie.Need-returns-3
-returns-3 c =
-    let ok = sym (c .before .before .before .before .before .before .before .before .is-consistent .ensures) ∙ not-false _ (c .before .before .before .before .before .before .before .if1 .left) in
     let routes = c .before .before .route .ensures in
-    as-in _ _ _ _ (good-state _ _ _ _ ok _ (c .before .before .before .before .before .read .given .1)) (routes .0) (routes .1)
+    as-in _ _ _ _ (good-state _ _ _ _ ok) (routes .0) (routes .1)
 
 pub receive-spec : {M : Type 1} → statement M
-receive-spec =
-    tie.close
-    (tie.spec
-    (λ c κs. search needs)
-    (λ c κs. search needs)
-    returns
-    (λ c. search needs)
-    (λ c. search needs)
-    (λ c κs. search needs)
-    (λ c κs. search needs)
-    returns-2
-    route-requires
-    (λ c. search needs)
-    returns-3)
+receive-spec = tie.close (tie.spec (λ c κs. search needs) (λ c κs. search needs) returns route-requires (λ c. search needs) returns-2)
