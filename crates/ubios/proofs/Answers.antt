@@ -1,7 +1,7 @@
 -- The laws of the checks: what the tests of each chain say together, and what is known of what passes.
 -- Assumes nothing.
-use Prim.Native.Nat.{ℕ, _+_, _-_, _≤_}
-use mathlib.Core.Bool.{Bool, false, cond, _||_}
+use Prim.Native.Nat.{ℕ, _+_, _-_, _≤_, _<_}
+use mathlib.Core.Bool.{Bool, true, false, cond, _||_}
 use mathlib.Core.Path.{_≡_, refl, sym, ap₂, subst, _∙_}
 use mathlib.Core.List.{List}
 use borrow.Author.Tests.{le-ltb, ltb-false, eqb-true, not-false}
@@ -38,6 +38,14 @@ module _ (header size total remaining : ℕ) where
       let q = neither (overMost total) _ (p .1) in
       let r = neither (pastRegion size total) _ (q .1) in
       record { holds = ltb-false _ _ (p .0); most = omega (arith, ltb-false totalMax total (q .0)); inside = ltb-false _ _ (r .0); left = ltb-false _ _ (r .1) }
+
+  -- no size is good where there is less than a header
+  pub short-size : size < header → badSize header size total remaining ≡ true
+  short-size short = go (badSize header size total remaining) refl
+    where
+      go : (bad : Bool) → badSize header size total remaining ≡ bad → bad ≡ true
+      go true e = refl
+      go false e = let s = sized e in absurd (omega (arith, s .holds, s .inside))
 
 -- 32, 33, 34
 pub judged-tested : (header at : ℕ) (t : List ℕ) {a b c : Bool} → badSize header (length t) (totalOf t) (remainingOf t) ≡ a → wrongVersion t ≡ b → wrongSum (summedPart t) ≡ c

@@ -6,6 +6,7 @@ mod name;
 
 use name::is_named;
 ghost use mathlib.Core.Path.{_≡_};
+ghost use Prim.Native.Nat.{_≤_};
 ghost use Rattle.ubios.specs.Layout.{tableHeader};
 ghost use Rattle.ubios.specs.Checks.{numberOf, badSize, judged, checked, badCount, rootJudged, rootChecked};
 
@@ -91,10 +92,15 @@ fn is_bad_size(header: usize, size: usize, total: usize, remaining: usize) -> bo
     total - header < remaining
 }
 
-// 32, 33 and 34, of the table that stands at that place of the region.
+// 32, 33 and 34, of the table that stands at that place of the region. Too few bytes for a header would be 32 as
+// well; once that is tested, each word behind it is one load.
 fn judge(header: usize, at: usize, table: &[u8]) -> Checked
+    requires { ⌜ tableHeader ≤ header ⌝ }
     ensures { λ r. ⌜ r ≡ judged header at (now (table .entry)) ⌝ }
 {
+    if table.len() < Table::HEADER {
+        return Checked::Refused(Reason::BadSize);
+    }
     let total = le::word::u32_at(table, 16) as usize;
     let remaining = le::word::u32_at(table, 24) as usize;
     if is_bad_size(header, table.len(), total, remaining) {
@@ -112,6 +118,7 @@ fn judge(header: usize, at: usize, table: &[u8]) -> Checked
 
 // The checks of a table with a header of that size.
 fn check(header: usize, region: &[u8], base: u64, address: u64) -> Checked
+    requires { ⌜ tableHeader ≤ header ⌝ }
     ensures { λ r. ⌜ r ≡ checked header (now (region .entry)) base address ⌝ }
 {
     let misaligned = address % 8 != 0;

@@ -123,9 +123,6 @@ pub fn step(
         *state = [0; 7];
         return 11;
     }
-    if state[0] == 0 {
-        *state = [0; 7];
-    }
     let mut header = [0; 6];
     let refusal = read_header(frame, us, &mut header);
     if refusal != 0 {
