@@ -6,8 +6,8 @@ use Rattle.hoursquall.proofs.messages.hs_reassembly_step.Tie as tie
 
 returns : tie.Need-returns
 returns c =
-    let at = c .before .before .before .before .before in
-    let stepped = rw (at .before .before .state-of .ensures) at (at .step .ensures) in
+    let call = c .before .before .before .before .before in
+    let stepped = rw (call .before .before .state-of .ensures) at (call .step .ensures) in
     let told = rw (stepped .0) at (c .tell .ensures) in
     (told .0, (told .1 .0, (stepped .1, told .1 .1)))
 

@@ -6,8 +6,8 @@ use Rattle.hoursquall.proofs.notices.hs_notice_post.Tie as tie
 
 returns : tie.Need-returns
 returns c =
-    let at = c .before .before .before .before in
-    let posted = rw (at .before .positions-of .ensures) at (at .post .ensures) in
+    let call = c .before .before .before .before in
+    let posted = rw (call .before .positions-of .ensures) at (call .post .ensures) in
     let told = rw (posted .0) at (c .tell-posted .ensures) in
     (told .0, (rw (posted .0) at (posted .1), told .1))
 

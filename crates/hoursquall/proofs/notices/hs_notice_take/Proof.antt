@@ -6,8 +6,8 @@ use Rattle.hoursquall.proofs.notices.hs_notice_take.Tie as tie
 
 returns : tie.Need-returns
 returns c =
-    let at = c .before .before .before .before .before .before in
-    let taken = rw (at .before .before .positions-of .ensures) at (at .take .ensures) in
+    let call = c .before .before .before .before .before .before in
+    let taken = rw (call .before .before .positions-of .ensures) at (call .take .ensures) in
     let told = rw (taken .0) at (c .tell-taken .ensures) in
     (told .0, (told .1 .0, (rw (taken .0) at (taken .1), told .1 .1)))
 
