@@ -210,8 +210,8 @@ step-agrees us s b c f agree = by (outcome us s (length b) f)
         let room-c : filled + length (dataOf f) ≤ length c = omega (arith, agree .0) in (
           length-landed filled (dataOf f) b room ∙ agree .0 ∙ sym (length-landed filled (dataOf f) c room-c),
           start-landed filled (dataOf f) b room
-          ∙ ap (λ (l : List ℕ). l ++ dataOf f) (from-source us f s w i filled source b c agree)
-          ∙ sym (start-landed filled (dataOf f) c room-c),
+              ∙ ap (λ (l : List ℕ). l ++ dataOf f) (from-source us f s w i filled source b c agree)
+              ∙ sym (start-landed filled (dataOf f) c room-c),
         )
 
     by : Outcome us s (length b) f
