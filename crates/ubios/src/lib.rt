@@ -7,7 +7,8 @@ mod name;
 use name::is_named;
 ghost use mathlib.Core.Path.{_≡_};
 ghost use Prim.Native.Nat.{_≤_};
-ghost use Rattle.ubios.specs.Layout.{tableHeader};
+ghost use lib.ListN.{length};
+ghost use Rattle.ubios.specs.Layout.{tableHeader, rootHeader};
 ghost use Rattle.ubios.specs.Checks.{numberOf, badSize, judged, checked, badCount, rootJudged, rootChecked};
 
 // A table that passes its checks: where it stands in the region, and the length of its used part.
@@ -165,10 +166,15 @@ impl Root {
         used < Self::HEADER + Self::SLOT_SIZE * count
     }
 
-    // 35 and 36, of a root that passes the checks of a table.
+    // 35 and 36, of a root that passes the checks of a table. So its header is there; the test, which never holds,
+    // says it to the compiler, and each word is one load.
     fn judge(table: Table, root: &[u8]) -> RootChecked
+        requires { ⌜ rootHeader ≤ length (now root) ⌝ }
         ensures { λ r. ⌜ r ≡ rootJudged table (now (root .entry)) ⌝ }
     {
+        if root.len() < Self::HEADER {
+            return RootChecked::Refused(Reason::NotRoot);
+        }
         if !is_named(root, b"root_table") {
             return RootChecked::Refused(Reason::NotRoot);
         }

@@ -1,6 +1,7 @@
 -- `ubios::Root::check` meets its contract: the checks of a table, then the root's own.
 -- Assumes nothing.
 use mathlib.Core.Path.{sym, ap, _∙_}
+use native.Mathlib.Omega.{arith}
 use lib.ListN.{drop}
 use Rattle.ubios.specs.Layout.{rootHeader}
 use Rattle.ubios.specs.Checks.{rootJudged}
@@ -12,6 +13,13 @@ use Rattle.ubios.proofs.Root.check.Tie as tie
 
 returns : tie.Need-returns
 returns c = sym (root-after _ _ _ (sym (c .before .before .before .check .ensures) ∙ c .before .reason .given .1))
+
+judge-requires : tie.Need-judge-requires
+judge-requires c κs =
+    let at-match = c .before .before in
+    let a = at-match .before .before .before .before .args in
+    let passed = passes-only rootHeader (a .region .now) (a .base) (a .address) _ (sym (at-match .before .before .check .ensures) ∙ at-match .table .given .1) in
+    rw (c .tail .ensures, passed .is) (omega (arith, passed .sized .holds, passed .sized .inside))
 
 returns-2 : tie.Need-returns-2
 returns-2 c =
@@ -30,6 +38,6 @@ check-spec =
     (λ c. search needs)
     (λ c. search needs)
     (λ c κs. search needs)
-    (λ c κs. search needs)
+    judge-requires
     returns
     returns-2)
