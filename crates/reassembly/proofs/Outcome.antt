@@ -42,7 +42,7 @@ pub data Source (us : ℕ) (f : List ℕ) : State → Words → ℕ → ℕ → 
 abbrev pub Steps : ℕ → State → ℕ → List ℕ → (List ℕ → Stepped) → Type 0
 Steps us s room f g = (b : List ℕ) → length b ≡ room → stepOf us s b f ≡ g b
 
--- a refusal, 11 exactly where the state is neither fresh nor consistent; a message; or an open state that is consistent again
+-- a refusal, 11 only where the state is neither fresh nor consistent; a message; or an open state that is consistent again
 pub data Outcome (us : ℕ) (s : State) (room : ℕ) (f : List ℕ) : Type 0 where
   refuses : (reason : Reason) → (reason ≡ BadState → consistent s room ≡ false) → Steps us s room f (refused reason s) → Outcome us s room f
   delivers : (w : Words) (i filled : ℕ) → Source us f s w i filled → filled + length (dataOf f) ≡ w .total → w .total ≤ room

@@ -271,7 +271,7 @@ pub fn step(state: State, frame: &[u8], us: u32, buf: &mut [u8]) -> Answer
     if !is_consistent(state, buf.len()) {
         return refuse(Reason::BadState, state);
     }
-    let read = frame::read::parse(frame, us);
+    let parsed = frame::read::parse(frame, us);
     let piece = frame::read::data(frame);
-    route(read, piece, state, buf)
+    route(parsed, piece, state, buf)
 }
