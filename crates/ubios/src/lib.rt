@@ -131,7 +131,7 @@ fn check(header: usize, region: &[u8], base: u64, address: u64) -> Checked
         return Checked::Refused(Reason::Outside);
     }
     let at = (address - base) as usize;
-    judge(header, at, le::tail(region, at))
+    judge(header, at, &region[at..])
 }
 
 impl Table {
@@ -191,7 +191,10 @@ impl Root {
     {
         match check(Self::HEADER, region, base, address) {
             Checked::Refused(reason) => RootChecked::Refused(reason),
-            Checked::Passed(table) => Self::judge(table, le::tail(region, table.at)),
+            Checked::Passed(table) => {
+                let at = table.at;
+                Self::judge(table, &region[at..])
+            }
         }
     }
 }
