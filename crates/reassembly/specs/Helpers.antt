@@ -1,4 +1,4 @@
--- What only private functions' contracts name. No reader has to believe it: `receive` calls it of a frame that does not parse.
+-- What only private functions' contracts name. No reader has to believe it: `route` calls it of a frame that does not parse.
 -- Assumes nothing.
 use Rattle.frame.specs.declared.read.Parsed.{Parsed}
 use Rattle.frame.specs.declared.read.Parsed.the-variants as Parsed
