@@ -68,14 +68,17 @@ fn open_of(b: [u64; 7]) -> State
     })
 }
 
-fn block_of(state: State) -> [u64; 7]
-    ensures { λ r. ⌜ r ≡ blockOf state ⌝ }
+// Each case writes the whole block itself: one write behind both would carry seven numbers to it from either.
+fn write_state(state: State, block: &mut [u64; 7])
+    ensures { λ _. ⌜ now (block .exit) ≡ blockOf state ⌝ }
 {
     match state {
-        State::Fresh => [0; 7],
+        State::Fresh => {
+            *block = [0; 7];
+        }
         State::Open(open) => {
             let words = open.words;
-            [
+            *block = [
                 1,
                 words.id as u64,
                 words.sender as u64,
@@ -83,7 +86,7 @@ fn block_of(state: State) -> [u64; 7]
                 words.total as u64,
                 open.next as u64,
                 open.filled as u64,
-            ]
+            ];
         }
     }
 }
@@ -103,6 +106,6 @@ pub(crate) fn write_block(number: u32, next: State, block: &mut [u64; 7])
     ensures { λ _. ⌜ now (block .exit) ≡ blockAfter number next (now (block .entry)) ⌝ }
 {
     if !is_unread(number) {
-        *block = block_of(next);
+        write_state(next, block);
     }
 }

@@ -8,8 +8,8 @@ use Rattle.hoursquall.proofs.state.write_block.Tie as tie
 
 returns : tie.Need-returns
 returns c =
-    let read = sym (c .before .before .is-unread .ensures) ∙ not-true _ (c .before .if1 .taken) in
-    rw read (c .block-of .ensures)
+    let read = sym (c .before .before .before .is-unread .ensures) ∙ not-true _ (c .before .before .if1 .taken) in
+    rw read (c .write-state .ensures)
 
 returns-2 : tie.Need-returns-2
 returns-2 c =
