@@ -43,7 +43,7 @@ examples:
 
 bench:
 	$(call quietly,rt staticlib hoursquall)
-	@cd rust && cargo run --release --offline --quiet -p bench
+	@scripts/bench.sh
 
 times:
 	@scripts/times.sh

@@ -11,11 +11,12 @@ ghost use Rattle.le.specs.Compare as Compare;
 ghost use Rattle.le.specs.Copy.{copied};
 ghost use Rattle.le.specs.Word.{word};
 
-// The slice from `at` on; empty where `at` is past its end.
+// The slice from `at` on; empty where `at` is past its end. At its end too it is cut there, so that behind a header
+// that is known to be there nothing is compared.
 pub fn tail(s: &[u8], at: usize) -> &[u8]
     ensures { λ r. ⌜ now r ≡ drop at (now (s .entry)) ⌝ }
 {
-    if at < s.len() { &s[at..] } else { &s[..0] }
+    if at <= s.len() { &s[at..] } else { &s[..0] }
 }
 
 // The first n bytes of a slice; all of it where it has no more.

@@ -19,7 +19,7 @@ use lib.Dec.{ltb, leb}
 use lib.ListN.{length, take, drop, length-append, length-take, length-drop, drop-of-length-le}
 use lib.Seq.{take-all, take-length, drop-length, take-add, drop-drop, take-append-le, drop-append-le, take-at, drop-at, take-append-add, drop-append-add, take-take, take-nil}
 use Rattle.le.specs.Copy.{copied}
-use Rattle.le.proofs.Parts.{copied-whole}
+use Rattle.le.proofs.Parts.{copied-whole, copied-part}
 use Rattle.notice.specs.Ring.{turned, stored, moved}
 
 pub length-turned : (k : ℕ) (xs : List ℕ) → length (turned k xs) ≡ length xs
@@ -145,16 +145,13 @@ stored-join first second at ring h l =
 pub put-end : (src : List ℕ) (at : ℕ) (ring part : List ℕ) → at + length src ≤ length ring → part ≡ copied src (midOf at (at + length src - at) ring)
     → putMid at (at + length src - at) ring part ≡ stored at src ring
 put-end src at ring part fits e =
-    let n-is : at + length src - at ≡ length src = omega arith in
     let d = drop at ring in
     let t = take at ring in
     let room : length d ≡ length ring - at = length-drop at ring in
     let len : length (src ++ drop (length src) d) ≡ length ring - at = simp (length-append, length-drop) (omega arith) in
-    let all : length (take (length src) d) ≡ length src = simp length-take (omega arith) in
-    let part-is : part ≡ src = e ∙ rw (n-is, copied-whole src (take (length src) d) (omega arith), drop-of-length-le (take (length src) d) {i = length src} (omega arith)) (append-nil src) in
-    rw (
-      part-is,
-      n-is,
+    copied-part src ring part at fits e
+    ∙ rw (
+      ← drop-drop (length src) at ring,
       drop-append-le (length src) d t (omega arith),
       ← append-assoc src (drop (length src) d) t,
       drop-at (src ++ drop (length src) d) t (length ring - at) len,

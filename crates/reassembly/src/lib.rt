@@ -177,8 +177,8 @@ fn accept_data(words: Words, index: usize, filled: usize, piece: &[u8], buf: &mu
     if total - filled < piece.len() {
         return refuse(Reason::TooMuchData, State::Fresh);
     }
-    le::copy(piece, &mut buf[filled..]);
     let now_filled = filled + piece.len();
+    le::copy(piece, &mut buf[filled..now_filled]);
     if now_filled == total {
         return Answer {
             verdict: Verdict::Delivered(words, total),

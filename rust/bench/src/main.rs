@@ -1,11 +1,26 @@
-//! Times the library beside plain Rust with the same meaning, and prints a Markdown table.
+//! Times the library beside plain Rust with the same meaning.
+//!
+//! `bench rounds` prints what each round took, `bench table FILE ..` makes a Markdown table of the
+//! rounds of several runs. `scripts/bench.sh` does both.
 
-mod baseline;
+mod table;
 mod timing;
 
+use bench::baseline;
 use hoursquall::calls as library;
+use std::arch::global_asm;
 use std::hint::black_box;
-use timing::{print_head, print_row};
+use std::{env, process};
+use timing::print_rounds;
+
+// Bytes before the code of both sides, which is linked behind this crate's. A loop that crosses the
+// end of a cache line can take twice as long as the same loop elsewhere; moved on by 16 bytes at a
+// time, each comes to stand at every place that the linker could give it.
+global_asm!(
+    ".section .text.pad,\"axR\",@progbits",
+    concat!(".zero ", env!("BENCH_PAD")),
+    ".text"
+);
 
 const ID: u32 = 0x0102_0304;
 const SENDER: u32 = 10;
@@ -47,7 +62,18 @@ type LogWrite = fn(&[u8], &mut [u8]) -> u32;
 type LogRead = fn(&[u8], &mut usize) -> u32;
 
 fn main() {
-    print_head();
+    let mut words = env::args().skip(1);
+    match words.next().as_deref() {
+        Some("rounds") => print_all_rounds(),
+        Some("table") => table::print(words),
+        _ => {
+            eprintln!("usage: bench rounds | table FILE ..");
+            process::exit(2);
+        }
+    }
+}
+
+fn print_all_rounds() {
     sums();
     parse();
     write("write, a frame of 256 B", 7);
@@ -76,7 +102,7 @@ fn sums() {
     let lengths = [("24 B", 24), ("4 KiB", 4096), ("64 KiB", 65_536)];
     for (name, length) in lengths {
         let bytes = pattern(length);
-        print_row(
+        print_rounds(
             &format!("sum8, {name}"),
             || library::sum8(black_box(&bytes)),
             || baseline::sum8(black_box(&bytes)),
@@ -84,7 +110,7 @@ fn sums() {
     }
     for (name, length) in lengths {
         let bytes = pattern(length);
-        print_row(
+        print_rounds(
             &format!("sum32, {name}"),
             || library::sum32(black_box(&bytes)),
             || baseline::sum32(black_box(&bytes)),
@@ -99,7 +125,7 @@ fn parse() {
         0
     );
     let (mut library_header, mut rust_header) = ([0; 6], [0; 6]);
-    print_row(
+    print_rounds(
         "parse, a frame of 256 B",
         || call_parse(library::parse, &frame, &mut library_header),
         || call_parse(baseline::parse, &frame, &mut rust_header),
@@ -108,7 +134,7 @@ fn parse() {
 }
 
 fn count() {
-    print_row(
+    print_rounds(
         "count",
         || call_count(library::count),
         || call_count(baseline::count),
@@ -118,7 +144,7 @@ fn count() {
 fn write(what: &str, index: usize) {
     let message = message();
     let (mut library_out, mut rust_out) = ([0; 256], [0; 256]);
-    print_row(
+    print_rounds(
         what,
         || call_write(library::write, &message, PIECE, index, &mut library_out),
         || call_write(baseline::write, &message, PIECE, index, &mut rust_out),
@@ -131,7 +157,7 @@ fn reassemble(what: &str, piece_size: usize) {
     let message = message();
     let frames = frames(&message, piece_size);
     let (mut library_buffer, mut rust_buffer) = ([0; MESSAGE], [0; MESSAGE]);
-    print_row(
+    print_rounds(
         what,
         || call_steps(library::step, &frames, &mut library_buffer),
         || call_steps(baseline::step, &frames, &mut rust_buffer),
@@ -145,7 +171,7 @@ fn reassemble(what: &str, piece_size: usize) {
 fn post_and_take(what: &str, length: usize) {
     let data = pattern(length);
     let (mut library_ring, mut rust_ring) = (Ring::new(), Ring::new());
-    print_row(
+    print_rounds(
         what,
         || call_post_and_take(library::post, library::take, &data, &mut library_ring),
         || call_post_and_take(baseline::post, baseline::take, &data, &mut rust_ring),
@@ -157,7 +183,7 @@ fn post_and_take(what: &str, length: usize) {
 fn table_check() {
     let region = ubios_table(b"table", &pattern(65_536 - 32));
     assert_eq!(call_table(baseline::table, &region), (0, [0, 65_536]));
-    print_row(
+    print_rounds(
         "table check, 64 KiB",
         || call_table(library::table, &region),
         || call_table(baseline::table, &region),
@@ -168,7 +194,7 @@ fn root_check() {
     let region = root_and_tables();
     let expected = (0, [0, ROOT, SLOTS]);
     assert_eq!(call_root(baseline::root, &region), expected);
-    print_row(
+    print_rounds(
         "root check, 128 slots",
         || call_root(library::root, &region),
         || call_root(baseline::root, &region),
@@ -181,7 +207,7 @@ fn find() {
     let (region, name) = (root_and_tables(), table_name(last));
     let expected = [last, ROOT + TABLE * last + 32, TABLE - 32];
     assert_eq!(call_find(baseline::find, &region, &name), (0, expected));
-    print_row(
+    print_rounds(
         "find, 128 slots with 128 tables",
         || call_find(library::find, &region, &name),
         || call_find(baseline::find, &region, &name),
@@ -192,7 +218,7 @@ fn sfi_check() {
     let table = syst(65_536);
     let expected = (0, SYST, 65_536);
     assert_eq!(call_sfi_check(baseline::sfi_check, &table), expected);
-    print_row(
+    print_rounds(
         "sfi check, 64 KiB",
         || call_sfi_check(library::sfi_check, &table),
         || call_sfi_check(baseline::sfi_check, &table),
@@ -205,7 +231,7 @@ fn sfi_entry() {
     let last = (1024 - 24) / 8 - 1;
     let expected = (0, 24 + 8 * last);
     assert_eq!(call_sfi_entry(baseline::sfi_entry, &table, last), expected);
-    print_row(
+    print_rounds(
         "sfi entry, the last of 1 KiB",
         || call_sfi_entry(library::sfi_entry, &table, last),
         || call_sfi_entry(baseline::sfi_entry, &table, last),
@@ -221,7 +247,7 @@ fn sfi_choose() {
         call_sfi_choose(baseline::sfi_choose, &board, &built_in),
         expected
     );
-    print_row(
+    print_rounds(
         "sfi choose, the second of two of 1 KiB",
         || call_sfi_choose(library::sfi_choose, &board, &built_in),
         || call_sfi_choose(baseline::sfi_choose, &board, &built_in),
@@ -231,7 +257,7 @@ fn sfi_choose() {
 /// All of the memory is searched.
 fn find_syst(what: &str, memory: &[u8]) {
     assert_eq!(call_find_syst(baseline::find_syst, memory), (47, 0));
-    print_row(
+    print_rounds(
         what,
         || call_find_syst(library::find_syst, memory),
         || call_find_syst(baseline::find_syst, memory),
@@ -242,7 +268,7 @@ fn find_syst(what: &str, memory: &[u8]) {
 fn log_write_and_read() {
     let frame: [u8; FRAME] = pattern(FRAME).try_into().expect("it has that length");
     let (mut library_record, mut rust_record) = ([0; RECORD], [0; RECORD]);
-    print_row(
+    print_rounds(
         "log, write and read a frame of 256 B",
         || {
             call_log(
