@@ -4,7 +4,7 @@ use std::fmt::Debug;
 use std::hint::black_box;
 use std::time::{Duration, Instant};
 
-const ROUNDS: usize = 33;
+const ROUNDS: usize = 15;
 const BATCH: Duration = Duration::from_millis(1);
 
 /// Prints a line for each round: what is timed, and the nanoseconds of a call of each, parted by
