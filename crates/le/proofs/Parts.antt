@@ -3,7 +3,6 @@
 --     put-rest       what is written to the part lent from `at` on follows what stands before it
 --     copied-whole   a copy of what fits
 --     copied-at      a copy of what fits, to the part from `at` on
---     copied-part    a copy to the part from `at` on that is as long as what is copied
 --     copied-behind  a copy to the start, then another to the part behind it
 -- Assumes nothing.
 use Prim.Native.Nat.{ℕ, _+_, _-_, _≤_}
@@ -11,7 +10,7 @@ use mathlib.Core.Path.{_≡_, sym, ap, _∙_}
 use mathlib.Core.List.{List, _++_, append-nil, append-assoc}
 use native.Mathlib.Omega.{arith}
 use borrow.Rule.Slice.PartMut.{midOf, putMid}
-use lib.ListN.{length, take, drop, length-append, length-take, length-drop, drop-of-length-le}
+use lib.ListN.{length, take, drop, length-append, length-drop, drop-of-length-le}
 use lib.Seq.{take-all, take-at, drop-at, drop-drop}
 use Rattle.le.specs.Copy.{copied}
 
@@ -32,17 +31,6 @@ pub copied-at : (src d part : List ℕ) (at : ℕ)
 copied-at src d part at fits e =
     let fits-part : length src ≤ length (drop at d) = rw (length-drop at d) (omega arith) in
     rw (put-rest d part at, e, rest d at, copied-whole src (drop at d) fits-part, drop-drop (length src) at d)
-
-pub copied-part : (src d part : List ℕ) (at : ℕ)
-    → at + length src ≤ length d
-    → part ≡ copied src (midOf at (at + length src - at) d)
-    → putMid at (at + length src - at) d part ≡ take at d ++ (src ++ drop (at + length src) d)
-copied-part src d part at fits e =
-    let n-is : at + length src - at ≡ length src = omega arith in
-    let mid = take (length src) (drop at d) in
-    let long : length mid ≡ length src = simp (length-take, length-drop) (omega arith) in
-    let part-is : part ≡ src = e ∙ rw (n-is, copied-whole src mid (omega arith), drop-of-length-le mid {i = length src} (omega arith)) (append-nil src) in
-    rw (part-is, n-is, drop-drop (length src) at d)
 
 pub copied-behind : (head tail d first second : List ℕ) (at : ℕ)
     → length head ≡ at

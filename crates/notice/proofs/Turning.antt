@@ -4,7 +4,7 @@
 --     turned-moved     the same for a position that is moved on, past the last byte to the first
 --     turned-stored    the ring with bytes stored, seen from their place
 --     stored-join      bytes stored one behind the other are stored together
---     put-end, put-parts     a copy in one part, and one to the end with one to the start, store round
+--     put-parts        a copy to the end and one to the start store round
 --     get-end, get-parts     a copy in one part, and one from the end with one from the start, read round
 -- Assumes nothing.
 use Prim.Native.Nat.{ℕ, _+_, _-_, _%_, _≤_, _<_}
@@ -13,13 +13,13 @@ use mathlib.Core.Path.{_≡_, refl, sym, ap, _∙_}
 use mathlib.Core.List.{List, _++_, append-assoc, append-nil}
 use native.Mathlib.Nat.{mod-lt, mod-self, mod-eq-of-lt, mod-eq-sub-mod}
 use native.Mathlib.Omega.{arith}
-use borrow.Rule.Slice.PartMut.{midOf, putMid}
+use borrow.Rule.Slice.PartMut.{midOf}
 use borrow.Author.Tests.{ltb-true, ltb-false, leb-true, leb-false}
 use lib.Dec.{ltb, leb}
 use lib.ListN.{length, take, drop, length-append, length-take, length-drop, drop-of-length-le}
 use lib.Seq.{take-all, take-length, drop-length, take-add, drop-drop, take-append-le, drop-append-le, take-at, drop-at, take-append-add, drop-append-add, take-take, take-nil}
 use Rattle.le.specs.Copy.{copied}
-use Rattle.le.proofs.Parts.{copied-whole, copied-part}
+use Rattle.le.proofs.Parts.{copied-whole}
 use Rattle.notice.specs.Ring.{turned, stored, moved}
 
 pub length-turned : (k : ℕ) (xs : List ℕ) → length (turned k xs) ≡ length xs
@@ -141,42 +141,43 @@ stored-join first second at ring h l =
     ∙ append-assoc second (drop (length second) (drop (length first) r)) first in
     turned-same behind (stored behind second x) y (omega arith) (omega arith) (left ∙ sym right)
 
--- bytes that fit before the ring's end, stored in one part; else a copy to the end, and one of what is left to the start
-pub put-end : (src : List ℕ) (at : ℕ) (ring part : List ℕ) → at + length src ≤ length ring → part ≡ copied src (midOf at (at + length src - at) ring)
-    → putMid at (at + length src - at) ring part ≡ stored at src ring
-put-end src at ring part fits e =
-    let d = drop at ring in
-    let t = take at ring in
-    let room : length d ≡ length ring - at = length-drop at ring in
-    let len : length (src ++ drop (length src) d) ≡ length ring - at = simp (length-append, length-drop) (omega arith) in
-    copied-part src ring part at fits e
-    ∙ rw (
-      ← drop-drop (length src) at ring,
-      drop-append-le (length src) d t (omega arith),
-      ← append-assoc src (drop (length src) d) t,
-      drop-at (src ++ drop (length src) d) t (length ring - at) len,
-      take-at (src ++ drop (length src) d) t (length ring - at) len,
-    )
+-- a copy to the end of the ring, and one of what is left to its start: d is the ring's end, t its start
+two-parts : (src d t : List ℕ) → length src ≤ length d + length t
+    → copied (drop (length d) src) (t ++ copied src d) ≡ turned (length d) (src ++ drop (length src) (d ++ t))
+two-parts src d t l = go (leb (length src) (length d)) refl
+  where
+    go : (b : Bool) → leb (length src) (length d) ≡ b → copied (drop (length d) src) (t ++ copied src d) ≡ turned (length d) (src ++ drop (length src) (d ++ t))
+    go true e =
+        let fits = leb-true (length src) (length d) e in
+        let len : length (src ++ drop (length src) d) ≡ length d = simp (length-append, length-drop) (omega arith) in
+        rw (
+          drop-of-length-le src {i = length d} fits,
+          take-nil (length (t ++ copied src d)),
+          take-all (length d) src fits,
+          drop-append-le (length src) d t fits,
+          ← append-assoc src (drop (length src) d) t,
+          drop-at (src ++ drop (length src) d) t (length d) len,
+          take-at (src ++ drop (length src) d) t (length d) len,
+        )
+    go false e =
+        let over = leb-false (length src) (length d) e in
+        let s1 = take (length d) src in
+        let s2 = drop (length d) src in
+        let len2 : length s2 ≡ length src - length d = length-drop (length d) src in
+        let long : length src ≡ length d + length s2 = omega arith in
+        let inside : length s2 ≤ length (t ++ s1) = simp length-append (omega arith) in
+        let left : copied s2 (t ++ copied src d) ≡ s2 ++ (drop (length s2) t ++ s1) =
+        rw (drop-of-length-le d {i = length src} (omega arith), append-nil s1, take-all (length (t ++ s1)) s2 inside, drop-append-le (length s2) t s1 (omega arith)) in
+        let behind : drop (length src) (d ++ t) ≡ drop (length s2) t = ap (λ n. drop n (d ++ t)) long ∙ drop-append-add d t (length s2) in
+        left
+        ∙ rw (behind, drop-append-le (length d) src (drop (length s2) t) (omega arith), take-append-le (length d) src (drop (length s2) t) (omega arith))
+        (sym (append-assoc s2 (drop (length s2) t) s1))
 
-pub put-parts : (src : List ℕ) (at : ℕ) (ring : List ℕ) → at ≤ length ring → length ring - at < length src → length src ≤ length ring
+pub put-parts : (src : List ℕ) (at : ℕ) (ring : List ℕ) → at ≤ length ring → length src ≤ length ring
     → copied (drop (length ring - at) src) (take at ring ++ copied src (drop at ring)) ≡ stored at src ring
-put-parts src at ring h over l =
-    let room = length ring - at in
-    let d = drop at ring in
-    let t = take at ring in
-    let len-d : length d ≡ room = length-drop at ring in
-    let len-t : length t ≡ at = simp length-take (omega arith) in
-    let s1 = take room src in
-    let s2 = drop room src in
-    let len2 : length s2 ≡ length src - room = length-drop room src in
-    let long : length src ≡ length d + length s2 = omega arith in
-    let inside : length s2 ≤ length (t ++ s1) = simp length-append (omega arith) in
-    let left : copied s2 (t ++ copied src d) ≡ s2 ++ (drop (length s2) t ++ s1) =
-    rw (len-d, drop-of-length-le d {i = length src} (omega arith), append-nil s1, take-all (length (t ++ s1)) s2 inside, drop-append-le (length s2) t s1 (omega arith)) in
-    let behind : drop (length src) (d ++ t) ≡ drop (length s2) t = ap (λ n. drop n (d ++ t)) long ∙ drop-append-add d t (length s2) in
-    left
-    ∙ rw (behind, drop-append-le room src (drop (length s2) t) (omega arith), take-append-le room src (drop (length s2) t) (omega arith))
-    (sym (append-assoc s2 (drop (length s2) t) s1))
+put-parts src at ring h l =
+    let fits : length src ≤ length (drop at ring) + length (take at ring) = simp (length-drop, length-take) (omega arith) in
+    rw (← length-drop at ring) (two-parts src (drop at ring) (take at ring) fits)
 
 -- bytes that stand before the ring's end, read in one part; else a copy from the end, and one from the start
 pub get-end : (ring : List ℕ) (at : ℕ) (out : List ℕ) → at + length out ≤ length ring

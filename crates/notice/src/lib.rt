@@ -120,22 +120,18 @@ fn move_on(c: usize, at: usize, n: usize) -> usize
     if next < c { next } else { next - c }
 }
 
-// Writes bytes to the ring from a place on: where they fit before its end, in one part; else first what fits, then
-// the rest at its start. A part as long as the bytes lets a header be written as one word.
+// Writes bytes to the ring from a place on: first what fits before its end, then the rest at its start.
 fn put_round(src: &[u8], at: usize, ring: &mut [u8])
     requires { ⌜ (at ≤ length (now ring)) × (length (now src) ≤ length (now ring)) ⌝ }
     ensures { λ _. ⌜ now (ring .exit) ≡ stored at (now (src .entry)) (now (ring .entry)) ⌝ }
 {
     let room = ring.len() - at;
-    if src.len() <= room {
-        le::copy(src, &mut ring[at..at + src.len()]);
-        return;
-    }
     le::copy(src, &mut ring[at..]);
     le::copy(le::tail(src, room), ring);
 }
 
-// Reads bytes of the ring from a place on, as many as the output holds, in the same one part or two.
+// Reads bytes of the ring from a place on, as many as the output holds: where they stand before its end, in one part,
+// so that a header is read as a whole; else in two.
 fn get_round(ring: &[u8], at: usize, out: &mut [u8])
     requires { ⌜ (at ≤ length (now ring)) × (length (now out) ≤ length (now ring)) ⌝ }
     ensures { λ _. ⌜ now (out .exit) ≡ ListN.take (length (now (out .entry))) (turned at (now (ring .entry))) ⌝ }

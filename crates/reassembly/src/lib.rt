@@ -178,7 +178,7 @@ fn accept_data(words: Words, index: usize, filled: usize, piece: &[u8], buf: &mu
         return refuse(Reason::TooMuchData, State::Fresh);
     }
     let now_filled = filled + piece.len();
-    le::copy(piece, &mut buf[filled..now_filled]);
+    le::copy(piece, &mut buf[filled..]);
     if now_filled == total {
         return Answer {
             verdict: Verdict::Delivered(words, total),

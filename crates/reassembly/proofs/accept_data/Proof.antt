@@ -6,7 +6,7 @@ use mathlib.Core.Path.{refl, sym, ap, _∙_}
 use native.Mathlib.Numerals.{add-one}
 use native.Mathlib.Omega.{arith}
 use lib.ListN.{length}
-use Rattle.le.proofs.Parts.{copied-part}
+use Rattle.le.proofs.Parts.{copied-at}
 use Rattle.reassembly.specs.Step.{waiting}
 use Rattle.reassembly.specs.declared.Answer.{Answer}
 use Rattle.reassembly.specs.declared.State.{State}
@@ -30,14 +30,14 @@ returns-3 : tie.Need-returns-3
 returns-3 c =
     let some = sym (c .before .before .before .before .before .before .before .lacks-data .ensures) ∙ c .before .before .before .before .before .before .if1 .left in
     let args = c .before .before .before .before .before .before .before .before .before .before .before .args in
-    let at-place = copied-part (args .piece .now) (args .buf .now) _ (args .filled) (omega arith) (c .before .before .before .copy .ensures) in
+    let at-place = copied-at (args .piece .now) (args .buf .now) _ (args .filled) (omega arith) (c .before .before .before .copy .ensures) in
     as-in _ _ _ _ (data-taken _ _ _ _ _ some (c .before .before .before .before .before .if2 .left) ∙ whole _ _ _ _ (c .if3 .taken)) refl at-place
 
 returns-4 : tie.Need-returns-4
 returns-4 c =
     let some = sym (c .before .before .before .before .before .before .before .before .lacks-data .ensures) ∙ c .before .before .before .before .before .before .before .if1 .left in
     let args = c .before .before .before .before .before .before .before .before .before .before .before .before .args in
-    let at-place = copied-part (args .piece .now) (args .buf .now) _ (args .filled) (omega arith) (c .before .before .before .before .copy .ensures) in
+    let at-place = copied-at (args .piece .now) (args .buf .now) _ (args .filled) (omega arith) (c .before .before .before .before .copy .ensures) in
     let more-wanted : State → Answer = λ s. record { verdict = More; state = s } in
     let next = ap (λ (n : ℕ). waiting (args .words) n (args .filled + length (args .piece .now))) (add-one (args .index)) in
     as-in _ _ _ _ (data-taken _ _ _ _ _ some (c .before .before .before .before .before .before .if2 .left) ∙ not-whole _ _ _ _ (c .before .if3 .left)) (ap more-wanted (c .wait-for .ensures ∙ next)) at-place
