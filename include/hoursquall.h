@@ -66,7 +66,8 @@ enum {
 };
 
 /* Signatures of SFI tables, each the little-endian word of its four letters. Beside each
- * stand the size of an entry in bytes, and the Revision. */
+ * stand the size of an entry in bytes, and the first Revision that is read: a newer table is
+ * read as one of that Revision. */
 enum {
     HS_SFI_SYST = 0x54535953, /* 8, Revision 1 */
     HS_SFI_CPUS = 0x53555043, /* 4, Revision 1 */
@@ -138,7 +139,7 @@ enum {
     HS_REFUSED_SFI_SUM = 41,       /* the table's Length bytes do not sum to 0 */
     HS_REFUSED_SFI_SIGNATURE = 42, /* no kind of table has the signature */
     HS_REFUSED_SFI_ENTRIES = 43,   /* Length is not that of whole entries; of one for WAKE */
-    HS_REFUSED_SFI_REVISION = 44,  /* Revision is not the kind's */
+    HS_REFUSED_SFI_REVISION = 44,  /* Revision is below the kind's */
     HS_REFUSED_NO_ENTRY = 45,      /* the table has no entry k */
     HS_REFUSED_SFI_MEMORY = 46,    /* memory_len is not HS_SFI_MEMORY_SIZE */
     HS_REFUSED_NO_SYST = 47,       /* SYST is nowhere in the memory */
@@ -269,7 +270,7 @@ uint32_t hs_ubios_find(const uint8_t *region, size_t region_len, uint64_t base,
  *
  * 40: table_len is under HS_SFI_HEADER_SIZE, or Length is under that, over HS_SFI_MAX
  * or over table_len. 42: the signature is none of HS_SFI_SYST to HS_SFI_WAKE. 44:
- * Revision is not the one listed there. 43: Length - HS_SFI_HEADER_SIZE is not a
+ * Revision is below the one listed there. 43: Length - HS_SFI_HEADER_SIZE is not a
  * multiple of the size of an entry that is listed there, or the signature is
  * HS_SFI_WAKE and Length is not 32. 41: hs_sum8 of the first Length bytes is not 0.
  * Refusals 40, 42, 44, 43, 41: *signature and *length are unchanged. */

@@ -134,7 +134,7 @@ rootHead = headOf (rootName ++ replicate 6 0) 40 (replicate 3 0) 0
 
 -- the head of CPUS with Length 28 and Revision 1
 pub cpusHead : List ℕ
-cpusHead = SfiTables.headOf cpus 28
+cpusHead = SfiTables.headOf cpus 1 28
 
 unfoldable pub starred : List Case
 unfolding envelope message seven two rootHead cpusHead

@@ -1,10 +1,10 @@
 -- The laws of the checks: one for each answer, with what leads there.
 -- Assumes nothing.
 use Prim.Native.Nat.{ℕ, _+_, _*_, _/_, _≤_, _<_}
-use mathlib.Core.Bool.{Bool, false, cond, _&&_, _||_}
+use mathlib.Core.Bool.{Bool, true, false, cond, _&&_, _||_}
 use mathlib.Core.Path.{_≡_, refl, sym, ap, ap₂, subst, _∙_}
 use mathlib.Core.List.{List}
-use borrow.Author.Tests.{lt-ltb, le-ltb, eq-eqb, ltb-false, eqb-true, not-false}
+use borrow.Author.Tests.{lt-ltb, le-ltb, eq-eqb, ltb-true, ltb-false, eqb-true, not-false}
 use native.Mathlib.Nat.{suc-mul, le-div-iff-mul-le}
 use native.Mathlib.Omega.{arith}
 use lib.Dec.{eqb}
@@ -12,8 +12,8 @@ use lib.ListN.{length}
 use Rattle.le.specs.Sum.{sum}
 use Rattle.le.proofs.Tests.{apart, neither, past}
 use Rattle.sfi.specs.Kinds.{kindOf}
-use Rattle.sfi.specs.Checks.{lengthMax, signatureOf, lengthOf, revisionOf, shortSlice, underHeader, overMost, pastSlice, badLength, wrongRevision, uneven, isWake, notOneEntry, badEntries, judged, judgedAs, headerChecked, summedPart, wrongSum, summed, checked, entriesOf, entryAt, entryOf, passesAs}
-use Rattle.sfi.specs.Statements.{Sized, Passing, PassesOnly}
+use Rattle.sfi.specs.Checks.{lengthMax, signatureOf, lengthOf, revisionOf, shortSlice, underHeader, overMost, pastSlice, badLength, olderRevision, uneven, isWake, notOneEntry, badEntries, judged, judgedAs, headerChecked, summedPart, wrongSum, summed, checked, entriesOf, entryAt, entryOf, passesAs}
+use Rattle.sfi.specs.Statements.{Sized, Passing, PassesOnly, Older, OlderRefused, RefusedOlder}
 use Rattle.sfi.specs.declared.kind.Kind.{Kind}
 use Rattle.sfi.specs.declared.kind.Known.{Known}
 use Rattle.sfi.specs.declared.kind.Known.the-variants.{Is, Unknown}
@@ -49,7 +49,7 @@ unfolding badEntries
 entries-tested kind total p q r = ap₂ _||_ p (ap₂ _&&_ q r)
 
 -- 44 and 43, with Length as it was read
-pub judged-tested : (kind : Kind) (header : List ℕ) {n : ℕ} {a b : Bool} → n ≡ lengthOf header → wrongRevision kind (revisionOf header) ≡ a → badEntries kind n ≡ b
+pub judged-tested : (kind : Kind) (header : List ℕ) {n : ℕ} {a b : Bool} → n ≡ lengthOf header → olderRevision kind (revisionOf header) ≡ a → badEntries kind n ≡ b
     → judged kind header ≡ cond a (Refused WrongRevision) (cond b (Refused BadEntries) (Passed (record { kind = kind; length = n })))
 unfolding judged
 judged-tested kind header read p q = rw (p, ← read, q)
@@ -90,7 +90,7 @@ passes-only t table e =
     go : Sized (length t) (lengthOf t) → sum 1 (summedPart table t) ≡ 0 → (m : Known) → kindOf (signatureOf t) ≡ m → judgedAs m t ≡ Passed table → Passing t table
     go s z Unknown q e = apart (cc)
     go s z (Is k) q e =
-        let r = past (wrongRevision k (revisionOf t)) (λ x. apart (cc)) e in
+        let r = past (olderRevision k (revisionOf t)) (λ x. apart (cc)) e in
         let n = past (badEntries k (lengthOf t)) (λ x. apart (cc)) (r .1) in
         let even = neither (uneven k (lengthOf t)) _ (n .0) .0 in
         let is : record { kind = k; length = lengthOf t } ≡ table = let all = n .1 in cc in
@@ -99,12 +99,38 @@ passes-only t table e =
           sized = s;
           kind = q;
           signed = listed (signatureOf t) k q .signed;
-          revision = eqb-true _ _ (not-false _ (r .0));
+          revision = ltb-false _ _ (r .0);
           entries = eqb-true _ _ (not-false _ even);
           one-entry = λ w. eqb-true _ _ (not-false _ (sym (entries-tested k (lengthOf t) even (eq-eqb _ _ (ap (λ (x : Kind). x .signature) w)) refl) ∙ n .0));
           zero = ap (λ (x : Table). sum 1 (summedPart x t)) is ∙ z;
           length-is = refl;
         })
+
+pub older-refused : OlderRefused
+older-refused t h =
+    header-then t
+    (header-tested (length t) t (good-length _ _ (h .sized)) (h .known)
+    ∙ judged-tested (h .kind) t refl (lt-ltb _ _ (h .below)) refl)
+
+-- 44 comes from the header, and there from the test of Revision
+refused-by-header : (t : List ℕ) (c : Checked) → headerChecked (length t) t ≡ c → checked t ≡ Refused WrongRevision → c ≡ Refused WrongRevision
+refused-by-header t (Refused reason) q e = sym (header-then t q) ∙ e
+refused-by-header t (Passed table) q e = let z = past (wrongSum (summedPart table t)) (λ x. apart (cc)) (sym (header-then t q) ∙ e) .1 in apart (cc)
+
+refused-by-revision : (kind : Kind) (t : List ℕ) (b : Bool) → olderRevision kind (revisionOf t) ≡ b → judged kind t ≡ Refused WrongRevision → b ≡ true
+refused-by-revision kind t true q e = refl
+refused-by-revision kind t false q e =
+    let z = past (badEntries kind (lengthOf t)) (λ x. apart (cc)) (sym (judged-tested kind t refl q refl) ∙ e) .1 in apart (cc)
+
+pub refused-older : RefusedOlder
+unfolding headerChecked
+refused-older t e =
+    let s = past (badLength (length t) (lengthOf t)) (λ q. apart (cc)) (refused-by-header t _ refl e) in
+    go (sized (length t) (lengthOf t) (s .0)) (kindOf (signatureOf t)) refl (s .1)
+  where
+    go : Sized (length t) (lengthOf t) → (m : Known) → kindOf (signatureOf t) ≡ m → judgedAs m t ≡ Refused WrongRevision → Older t
+    go s Unknown q e = apart (cc)
+    go s (Is k) q e = record { kind = k; sized = s; known = q; below = ltb-true _ _ (refused-by-revision k t _ refl e) }
 
 -- a table that passes has the signature of its kind
 pub passes-as : (t : List ℕ) (table : Table) (signature : ℕ) → checked t ≡ Passed table → passesAs signature (checked t) ≡ eqb (signatureOf t) signature

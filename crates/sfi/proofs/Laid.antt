@@ -1,10 +1,10 @@
 -- `laid-passes`: a table of a listed kind that is laid out by the rules passes its checks.
 -- Assumes nothing.
-use Prim.Native.Nat.{ℕ, _+_, _*_, _-_, _%_, _≤_}
+use Prim.Native.Nat.{ℕ, _+_, _*_, _-_, _%_, _≤_, _<_}
 use mathlib.Core.Bool.{Bool, true, false, not}
 use mathlib.Core.Path.{_≡_, refl, sym, ap, ap₂, _∙_}
 use mathlib.Core.List.{List, _++_, append-assoc}
-use borrow.Author.Tests.{eq-eqb, eqb-true}
+use borrow.Author.Tests.{le-ltb, eq-eqb, eqb-true}
 use native.Mathlib.Nat.{mul-mod-left}
 use native.Mathlib.Omega.{arith}
 use lib.Dec.{eqb}
@@ -20,48 +20,47 @@ use Rattle.sfi.specs.Statements.{headOf, tableOf, LaidPasses}
 use Rattle.sfi.specs.declared.kind.Kind.{Kind}
 use Rattle.sfi.specs.declared.kind.Known.the-variants.{Is}
 use Rattle.sfi.specs.declared.Checked.the-variants.{Passed}
-use Rattle.sfi.proofs.Listing.{Listed, listed}
+use Rattle.sfi.proofs.Listing.{listed}
 use Rattle.sfi.proofs.Answers.{good-length, entries-tested, judged-tested, header-tested, sum-tested}
 use Rattle.sfi.proofs.Theorems.{kinds-known, same-kind}
 
-module _ (kind : Kind) (oem entries rest : List ℕ)
+module _ (kind : Kind) (revision : ℕ) (oem entries rest : List ℕ)
     (is : kindOf (kind .signature) ≡ Is kind)
+    (from : kind .revision ≤ revision)
+    (byte : revision < 256)
     (strings : length oem ≡ 14)
     (most : headerSize + length entries ≤ lengthMax) where
   abbrev total : ℕ
   total = headerSize + length entries
 
   abbrev head : List ℕ
-  head = headOf kind total
+  head = headOf kind revision total
 
   abbrev table : List ℕ
-  table = tableOf kind oem entries ++ rest
+  table = tableOf kind revision oem entries ++ rest
 
   -- what follows Revision
   abbrev behind : List ℕ
   behind = bytes 1 (checksumOf 1 head (oem ++ entries)) ++ (oem ++ entries) ++ rest
 
-  facts : Listed (kind .signature) kind
-  facts = listed (kind .signature) kind is
-
-  here : table ≡ bytes 4 (kind .signature) ++ (bytes 4 total ++ (bytes 1 (kind .revision) ++ behind))
+  here : table ≡ bytes 4 (kind .signature) ++ (bytes 4 total ++ (bytes 1 revision ++ behind))
   here = simp append-assoc
 
   signature-is : signatureOf table ≡ kind .signature
-  signature-is = ap (word 4) here ∙ word-bytes 4 (kind .signature) _ (facts .word)
+  signature-is = ap (word 4) here ∙ word-bytes 4 (kind .signature) _ (listed (kind .signature) kind is .word)
 
-  behind-signature : drop 4 table ≡ bytes 4 total ++ (bytes 1 (kind .revision) ++ behind)
+  behind-signature : drop 4 table ≡ bytes 4 total ++ (bytes 1 revision ++ behind)
   behind-signature = ap (drop 4) here ∙ drop-at (bytes 4 (kind .signature)) _ 4 (length-bytes 4 (kind .signature))
 
   length-is : lengthOf table ≡ total
-  length-is = ap (word 4) behind-signature ∙ word-bytes 4 total (bytes 1 (kind .revision) ++ behind) (omega arith)
+  length-is = ap (word 4) behind-signature ∙ word-bytes 4 total (bytes 1 revision ++ behind) (omega arith)
 
-  revision-is : revisionOf table ≡ kind .revision
+  revision-is : revisionOf table ≡ revision
   revision-is =
-      ap (word 1) (sym (drop-drop 4 4 table) ∙ ap (drop 4) behind-signature ∙ drop-at (bytes 4 total) (bytes 1 (kind .revision) ++ behind) 4 (length-bytes 4 total))
-      ∙ word-bytes 1 (kind .revision) behind (facts .byte)
+      ap (word 1) (sym (drop-drop 4 4 table) ∙ ap (drop 4) behind-signature ∙ drop-at (bytes 4 total) (bytes 1 revision ++ behind) 4 (length-bytes 4 total))
+      ∙ word-bytes 1 revision behind byte
 
-  table-length : length (tableOf kind oem entries) ≡ total
+  table-length : length (tableOf kind revision oem entries) ≡ total
   table-length = simp (length-append, length-bytes) (omega arith)
 
   head-length : length head ≡ 9
@@ -69,19 +68,19 @@ module _ (kind : Kind) (oem entries rest : List ℕ)
 
   sums : sum 1 (take total table) ≡ 0
   sums =
-      ap (sum 1) (take-at (tableOf kind oem entries) rest total table-length)
+      ap (sum 1) (take-at (tableOf kind revision oem entries) rest total table-length)
       ∙ checksum 1 9 head (oem ++ entries) (omega arith) (head-length ∙ omega arith)
 
   good : badLength (length table) (lengthOf table) ≡ false
   good =
-      let size : length table ≡ total + length rest = length-append (tableOf kind oem entries) rest ∙ ap (λ (n : ℕ). n + length rest) table-length in
+      let size : length table ≡ total + length rest = length-append (tableOf kind revision oem entries) rest ∙ ap (λ (n : ℕ). n + length rest) table-length in
       rw (length-is, size) (good-length (total + length rest) total (record { slice = omega arith; least = omega arith; most = most; inside = omega arith }))
 
   laid : badEntries kind total ≡ false → checked table ≡ Passed (record { kind = kind; length = total })
   laid even =
       sum-tested table (record { kind = kind; length = total })
       (header-tested (length table) table good (ap (λ (n : ℕ). kindOf n) signature-is ∙ is)
-      ∙ judged-tested kind table (sym length-is) (ap not (eq-eqb _ _ revision-is)) even)
+      ∙ judged-tested kind table (sym length-is) (le-ltb (revisionOf table) (kind .revision) (omega (arith, revision-is))) even)
       (ap (λ (n : ℕ). not (eqb n 0)) sums)
 
 -- whole entries, and one for WAKE, make a good Length
@@ -103,5 +102,5 @@ whole-entries kind n total is long one = go (isWake kind) refl
     go false q = entries-tested kind total even q refl
 
 pub laid-passes : LaidPasses
-laid-passes kind n oem entries rest is strings whole one most =
-    laid kind oem entries rest is strings most (whole-entries kind n (headerSize + length entries) is (ap (λ (k : ℕ). headerSize + k) whole) one)
+laid-passes kind revision n oem entries rest is from byte strings whole one most =
+    laid kind revision oem entries rest is from byte strings most (whole-entries kind n (headerSize + length entries) is (ap (λ (k : ℕ). headerSize + k) whole) one)

@@ -17,7 +17,7 @@ use Rattle.le.proofs.Tests.{apart, never, both}
 use Rattle.sfi.specs.Kinds.{syst, among, kindOf}
 use Rattle.sfi.specs.Checks.{headerSize, signatureOf, lengthOf, badLength, judged, judgedAs, headerChecked, summedPart, wrongSum, checked, entriesOf, entryAt, passesAs}
 use Rattle.sfi.specs.Search.{memorySize, step, tries, inPage, isHit, located}
-use Rattle.sfi.specs.Statements.{SignaturesSpell, KindsKnown, HeaderAlone, Hit, HitIs, IsHit, FoundLowest, LowestFound, NoHit, NoneFound, Inside, EntryInside, EntryExactly, Chooses, Whole, PartPasses}
+use Rattle.sfi.specs.Statements.{SignaturesSpell, KindsKnown, RevisionsFit, HeaderAlone, Hit, HitIs, IsHit, FoundLowest, LowestFound, NoHit, NoneFound, Inside, EntryInside, EntryExactly, Chooses, Whole, PartPasses}
 use Rattle.sfi.specs.Choice.{asked, chosen, partOf}
 use Rattle.sfi.specs.declared.kind.Kind.{Kind}
 use Rattle.sfi.specs.declared.kind.Known.{Known}
@@ -42,6 +42,9 @@ signatures-spell = (refl, refl, refl, refl, refl, refl, refl, refl, refl, refl)
 pub kinds-known : KindsKnown
 unfolding among
 kinds-known = (refl, refl, refl, refl, refl, refl, refl, refl, refl, refl)
+
+pub revisions-fit : RevisionsFit
+revisions-fit signature kind e = let h = listed signature kind e in (h .some, omega (arith, h .byte))
 
 -- one kind has one signature
 pub same-kind : (signature : ℕ) (j k : Kind) → kindOf signature ≡ Is j → kindOf signature ≡ Is k → j ≡ k

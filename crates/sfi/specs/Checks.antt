@@ -72,9 +72,9 @@ badLength size total =
     || (overMost total
     || pastSlice size total))
 
--- 44: "Revision is not the listed one"
-abbrev pub wrongRevision : Kind → ℕ → Bool
-wrongRevision kind revision = not (eqb revision (kind .revision))
+-- 44: "exactly when Revision is below the listed one" (Q-1)
+abbrev pub olderRevision : Kind → ℕ → Bool
+olderRevision kind revision = ltb revision (kind .revision)
 
 -- "Length − 24 no multiple of the entry size"
 abbrev pub uneven : Kind → ℕ → Bool
@@ -94,7 +94,7 @@ badEntries kind total = uneven kind total || (isWake kind && notOneEntry total)
 -- 44 and 43, of a table of that kind
 unfoldable pub judged : Kind → List ℕ → Checked
 judged kind header =
-    cond (wrongRevision kind (revisionOf header)) (Failed WrongRevision)
+    cond (olderRevision kind (revisionOf header)) (Failed WrongRevision)
     (cond (badEntries kind (lengthOf header)) (Failed BadEntries)
     (Passed (record { kind = kind; length = lengthOf header })))
 

@@ -1,5 +1,5 @@
 -- What is proved of the tables, the search and the choice, under the names given here. The proofs are in `proofs/Theorems.antt`, that of `laid-passes` in
--- `proofs/Laid.antt`, that of `passes-only` in `proofs/Answers.antt`.
+-- `proofs/Laid.antt`, those of `passes-only`, `older-refused` and `refused-older` in `proofs/Answers.antt`.
 -- Assumes nothing.
 use Prim.Native.Nat.{ℕ, _+_, _*_, _-_, _/_, _%_, _≤_, _<_}
 use mathlib.Core.Bool.{true, false}
@@ -15,10 +15,10 @@ use Rattle.sfi.specs.Choice.{chosen, partOf}
 use Rattle.sfi.specs.declared.kind.Kind.{Kind}
 use Rattle.sfi.specs.declared.kind.Known.the-variants.{Is, Unknown}
 use Rattle.sfi.specs.declared.Table.{Table}
-use Rattle.sfi.specs.declared.Checked.the-variants.{Passed}
+use Rattle.sfi.specs.declared.Checked.the-variants.{Passed, Refused as Failed}
 use Rattle.sfi.specs.declared.Entry.the-variants.{At as EntryAt, Refused as NotThere}
 use Rattle.sfi.specs.declared.Reason.{Reason}
-use Rattle.sfi.specs.declared.Reason.the-variants.{UnknownSignature, NoEntry, NoSyst, Neither}
+use Rattle.sfi.specs.declared.Reason.the-variants.{UnknownSignature, WrongRevision, NoEntry, NoSyst, Neither}
 use Rattle.sfi.specs.declared.search.Found.the-variants.{At, Refused}
 use Rattle.sfi.specs.declared.choice.Chosen.the-variants.{Board, BuiltIn, Refused as NotChosen}
 
@@ -50,6 +50,10 @@ KindsKnown =
     × (kindOf (mtmr .signature) ≡ Is mtmr)
     × (kindOf (wake .signature) ≡ Is wake)
 
+-- `revisions-fit`. A listed revision is a byte and not 0: so revision 0 never passes, and 255 is older than none.
+abbrev pub RevisionsFit : Type 0
+RevisionsFit = (signature : ℕ) (kind : Kind) → kindOf signature ≡ Is kind → (0 < kind .revision) × (kind .revision ≤ 255)
+
 -- Length of a table in a slice of that size
 pub record Sized (size total : ℕ) : Type 0 where
   pub slice : 24 ≤ size
@@ -57,13 +61,13 @@ pub record Sized (size total : ℕ) : Type 0 where
   pub most : total ≤ 65536
   pub inside : total ≤ size
 
--- `passes-only`. What passes has a Length in its bounds and of whole entries, one of them in WAKE, the signature and the revision of its kind, and Length bytes that sum
--- to 0; the answer is that kind, and Length.
+-- `passes-only`. What passes has a Length in its bounds and of whole entries, one of them in WAKE, the signature of its kind, a revision from that of its kind on, and
+-- Length bytes that sum to 0; the answer is that kind, and Length.
 pub record Passing (t : List ℕ) (table : Table) : Type 0 where
   pub sized : Sized (length t) (word 4 (drop 4 t))
   pub kind : kindOf (word 4 t) ≡ Is (table .kind)
   pub signed : word 4 t ≡ table .kind .signature
-  pub revision : word 1 (drop 8 t) ≡ table .kind .revision
+  pub revision : table .kind .revision ≤ word 1 (drop 8 t)
   pub entries : (word 4 (drop 4 t) - 24) % table .kind .entry ≡ 0
   pub one-entry : table .kind ≡ wake → word 4 (drop 4 t) ≡ 32
   pub zero : sum 1 (take (word 4 (drop 4 t)) t) ≡ 0
@@ -71,6 +75,19 @@ pub record Passing (t : List ℕ) (table : Table) : Type 0 where
 
 abbrev pub PassesOnly : Type 0
 PassesOnly = (t : List ℕ) (table : Table) → checked t ≡ Passed table → Passing t table
+
+-- `older-refused`, `refused-older`. 44 exactly where 40 and 42 are not due, and Revision is below that of the kind, whatever Length and the sum are.
+pub record Older (t : List ℕ) : Type 0 where
+  pub kind : Kind
+  pub sized : Sized (length t) (word 4 (drop 4 t))
+  pub known : kindOf (word 4 t) ≡ Is kind
+  pub below : word 1 (drop 8 t) < kind .revision
+
+abbrev pub OlderRefused : Type 0
+OlderRefused = (t : List ℕ) → Older t → checked t ≡ Failed WrongRevision
+
+abbrev pub RefusedOlder : Type 0
+RefusedOlder = (t : List ℕ) → checked t ≡ Failed WrongRevision → Older t
 
 -- `header-alone`. The header's check looks at no byte behind the first 24.
 abbrev pub HeaderAlone : Type 0
@@ -156,21 +173,24 @@ PartPasses =
     × ((reason : Reason) → chosen signature board built-in ≡ NotChosen reason → partOf (chosen signature board built-in) board built-in ≡ [])
 
 -- a table as the rules lay it out: signature, Length, Revision, Checksum, the two OEM strings, the entries
-abbrev pub headOf : Kind → ℕ → List ℕ
-headOf kind total = bytes 4 (kind .signature) ++ (bytes 4 total ++ bytes 1 (kind .revision))
+abbrev pub headOf : Kind → ℕ → ℕ → List ℕ
+headOf kind revision total = bytes 4 (kind .signature) ++ (bytes 4 total ++ bytes 1 revision)
 
-abbrev pub tableOf : Kind → List ℕ → List ℕ → List ℕ
-tableOf kind oem entries =
-    headOf kind (headerSize + length entries)
-    ++ (bytes 1 (checksumOf 1 (headOf kind (headerSize + length entries)) (oem ++ entries)) ++ (oem ++ entries))
+abbrev pub tableOf : Kind → ℕ → List ℕ → List ℕ → List ℕ
+tableOf kind revision oem entries =
+    headOf kind revision (headerSize + length entries)
+    ++ (bytes 1 (checksumOf 1 (headOf kind revision (headerSize + length entries)) (oem ++ entries)) ++ (oem ++ entries))
 
--- `laid-passes`. Each table of a listed kind that is laid out by the rules passes, whatever stands behind it: any OEM strings, any entries, one entry for WAKE.
+-- `laid-passes`. Each table of a listed kind that is laid out by the rules passes, whatever stands behind it: any revision from that of the kind on, any OEM strings, any
+-- entries of the kind's size, one entry for WAKE.
 abbrev pub LaidPasses : Type 0
 LaidPasses =
-    (kind : Kind) (n : ℕ) (oem entries rest : List ℕ)
+    (kind : Kind) (revision n : ℕ) (oem entries rest : List ℕ)
     → kindOf (kind .signature) ≡ Is kind
+    → kind .revision ≤ revision
+    → revision < 256
     → length oem ≡ 14
     → length entries ≡ n * kind .entry
     → (kind .signature ≡ wake .signature → n ≡ 1)
     → headerSize + length entries ≤ 65536
-    → checked (tableOf kind oem entries ++ rest) ≡ Passed (record { kind = kind; length = headerSize + length entries })
+    → checked (tableOf kind revision oem entries ++ rest) ≡ Passed (record { kind = kind; length = headerSize + length entries })

@@ -6,13 +6,14 @@ use crate::length_of;
 ghost use mathlib.Core.Path.{_≡_};
 ghost use Prim.Native.Nat.{_≤_, _<_};
 ghost use Rattle.sfi.specs.Kinds as Kinds;
-ghost use Rattle.sfi.specs.Checks.{headerSize, lengthOf, wrongRevision, badEntries, judged};
+ghost use Rattle.sfi.specs.Checks.{headerSize, lengthOf, olderRevision, badEntries, judged};
 
 // A kind of table.
 pub struct Kind {
     pub signature: u32,
     // The size of an entry.
     pub entry: usize,
+    // The oldest Revision that is read.
     pub revision: u8,
 }
 
@@ -220,11 +221,11 @@ impl Kind {
         Known::Unknown
     }
 
-    // Whether a table of this kind with that Revision is refused.
-    fn has_other_revision(self, revision: u8) -> bool
-        ensures { λ r. ⌜ r ≡ wrongRevision self revision ⌝ }
+    // Whether a Revision is older than the listed one. Newer ones stay readable.
+    fn has_older_revision(self, revision: u8) -> bool
+        ensures { λ r. ⌜ r ≡ olderRevision self revision ⌝ }
     {
-        revision != self.revision
+        revision < self.revision
     }
 
     // Whether a Length is not that of whole entries of this kind, or of other than one for WAKE.
@@ -246,7 +247,7 @@ impl Kind {
         requires { ⌜ (0 < self .entry) × (headerSize ≤ lengthOf (now header)) ⌝ }
         ensures { λ r. ⌜ r ≡ judged self (now (header .entry)) ⌝ }
     {
-        if self.has_other_revision(le::word::u8_at(header, 8)) {
+        if self.has_older_revision(le::word::u8_at(header, 8)) {
             return Checked::Refused(Reason::WrongRevision);
         }
         let length = length_of(header);

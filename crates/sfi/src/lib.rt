@@ -27,7 +27,7 @@ pub enum Reason {
     UnknownSignature,
     // 43: Length − 24 is not a multiple of the entry size, or Length is not 32 for WAKE.
     BadEntries,
-    // 44: Revision is not the listed one.
+    // 44: Revision is older than the listed one.
     WrongRevision,
     // 45: the table has no such entry.
     NoEntry,

@@ -135,7 +135,6 @@ fn run_checks(cpus: &[u8]) {
     let right = check(cpus, Kind::CPUS);
     let cut = check(le::head(cpus, 27), Kind::CPUS);
     let other = laid_refusal(NO_KIND, 28, 1);
-    let revised = laid_refusal(Kind::CPUS, 28, 2);
     let odd = laid_refusal(Kind::CPUS, 27, 1);
     let padded = laid_refusal(Kind::MMAP, 64, 1);
     let two = laid_refusal(Kind::WAKE, 40, 2);
@@ -145,7 +144,6 @@ fn run_checks(cpus: &[u8]) {
         right.given,
         cut.refusal,
         other,
-        revised,
         odd,
         sum.refusal,
         padded,
@@ -153,7 +151,32 @@ fn run_checks(cpus: &[u8]) {
         wake.given,
     ];
     report::pattern(
-        b"\n  the checksum of CPUS with Length 28, Revision 1, the rest 0: 0x$\n  check, CPUS of 28 bytes: CPUS, % bytes\n  check, its first 27 bytes: refused with %\n  check, another signature: refused with %\n  check, Revision 2: refused with %\n  check, Length 27: refused with %\n  check, Checksum 0: refused with %\n  check, MMAP with an entry of 40 bytes: refused with %\n  check, WAKE of 40 bytes: refused with %\n  check, WAKE of 32 bytes: WAKE, % bytes",
+        b"\n  the checksum of CPUS with Length 28, Revision 1, the rest 0: 0x$\n  check, CPUS of 28 bytes: CPUS, % bytes\n  check, its first 27 bytes: refused with %\n  check, another signature: refused with %\n  check, Length 27: refused with %\n  check, Checksum 0: refused with %\n  check, MMAP with an entry of 40 bytes: refused with %\n  check, WAKE of 40 bytes: refused with %\n  check, WAKE of 32 bytes: WAKE, % bytes",
+        &said,
+    );
+}
+
+// Revisions are read from the listed one on: 1, and 2 for MTMR and WAKE. A newer table keeps the size of its entries.
+fn run_revisions() {
+    let freq_1 = check_laid(Kind::FREQ, 36, 1);
+    let freq_2 = check_laid(Kind::FREQ, 36, 2);
+    let freq_255 = check_laid(Kind::FREQ, 36, 255);
+    let longer = laid_refusal(Kind::FREQ, 40, 2);
+    let mtmr_3 = check_laid(Kind::MTMR, 40, 3);
+    let wake_3 = check_laid(Kind::WAKE, 32, 3);
+    let said = [
+        laid_refusal(Kind::FREQ, 36, 0),
+        freq_1.given,
+        freq_2.given,
+        freq_255.given,
+        longer,
+        laid_refusal(Kind::MTMR, 40, 1),
+        mtmr_3.given,
+        laid_refusal(Kind::WAKE, 32, 1),
+        wake_3.given,
+    ];
+    report::pattern(
+        b"\n  check, FREQ of Revision 0: refused with %\n  check, FREQ of Revision 1: FREQ, % bytes\n  check, FREQ of Revision 2: FREQ, % bytes\n  check, FREQ of Revision 255: FREQ, % bytes\n  check, FREQ of Revision 2 with an entry of 16 bytes: refused with %\n  check, MTMR of Revision 1: refused with %\n  check, MTMR of Revision 3: MTMR, % bytes\n  check, WAKE of Revision 1: refused with %\n  check, WAKE of Revision 3: WAKE, % bytes",
         &said,
     );
 }
@@ -175,21 +198,30 @@ fn put(table: &[u8], at: usize, memory: &mut [u8]) {
     }
 }
 
-// The search, with a SYST of that Length at a place.
-fn find_with(length: u32, at: usize, memory: &mut [u8]) -> Said {
-    put(&laid(Kind::SYST, length, 1), at, memory);
+// The search, with a SYST of that Length and Revision at a place.
+fn find_with(length: u32, revision: u8, at: usize, memory: &mut [u8]) -> Said {
+    put(&laid(Kind::SYST, length, revision), at, memory);
     find_syst(memory)
 }
 
-// A SYST that runs past its page, one that ends with it, and a second one behind that.
+// A SYST that runs past its page, one that ends with it, of several revisions, and a second one behind that.
 fn search(memory: &mut [u8]) {
     let short = find_syst(le::head(memory, 131071));
-    let past = find_with(40, SYST_AT, memory);
-    let one = find_with(32, SYST_AT, memory);
-    let two = find_with(32, SECOND_AT, memory);
+    let past = find_with(40, 1, SYST_AT, memory);
+    let older = find_with(32, 0, SYST_AT, memory);
+    let newer = find_with(32, 2, SYST_AT, memory);
+    let one = find_with(32, 1, SYST_AT, memory);
+    let two = find_with(32, 1, SECOND_AT, memory);
     report::pattern(
-        b"\n  find SYST, at 4064 with Length 32: at %\n  find SYST, at 4064 and at 8192: at %\n  find SYST, at 4064 with Length 40: refused with %\n  find SYST, 131071 bytes: refused with %",
-        &[one.given, two.given, past.refusal, short.refusal],
+        b"\n  find SYST, at 4064 with Length 32: at %\n  find SYST, at 4064 and at 8192: at %\n  find SYST, at 4064 with Length 40: refused with %\n  find SYST, at 4064 of Revision 0: refused with %\n  find SYST, at 4064 of Revision 2: at %\n  find SYST, 131071 bytes: refused with %",
+        &[
+            one.given,
+            two.given,
+            past.refusal,
+            older.refusal,
+            newer.given,
+            short.refusal,
+        ],
     );
 }
 
@@ -197,18 +229,22 @@ fn run_choice(cpus: &[u8]) {
     let wrong = le::head(cpus, 27);
     let board = choose(Kind::CPUS, cpus, wrong);
     let both = choose(Kind::CPUS, &laid(Kind::CPUS, 32, 1), cpus);
+    let newer = choose(Kind::CPUS, &laid(Kind::CPUS, 32, 2), cpus);
+    let older = choose(Kind::CPUS, &laid(Kind::CPUS, 32, 0), cpus);
     let built_in = choose(Kind::CPUS, wrong, cpus);
     let neither = choose(Kind::CPUS, wrong, wrong);
     let unknown = choose(NO_KIND, cpus, cpus);
     let said = [
         board.board,
         both.board,
+        newer.board,
+        older.built_in,
         built_in.built_in,
         neither.refusal,
         unknown.refusal,
     ];
     report::pattern(
-        b"\n  choose CPUS, the board's passes: board, % bytes\n  choose CPUS, both pass, the built-in one with 28 bytes: board, % bytes\n  choose CPUS, the board's fails: built-in, % bytes\n  choose CPUS, both fail: refused with %\n  choose, another signature: refused with %",
+        b"\n  choose CPUS, the board's passes: board, % bytes\n  choose CPUS, both pass, the built-in one with 28 bytes: board, % bytes\n  choose CPUS, the board's is of Revision 2: board, % bytes\n  choose CPUS, the board's is of Revision 0: built-in, % bytes\n  choose CPUS, the board's fails: built-in, % bytes\n  choose CPUS, both fail: refused with %\n  choose, another signature: refused with %",
         &said,
     );
 }
@@ -228,6 +264,7 @@ pub fn run() {
     let table = laid(Kind::CPUS, 28, 1);
     let cpus = le::head(&table, 28);
     run_checks(cpus);
+    run_revisions();
     run_entries(cpus);
     run_search();
     run_choice(cpus);

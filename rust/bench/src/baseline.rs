@@ -494,7 +494,7 @@ fn sfi_table(slice: &[u8]) -> Result<(&[u8], usize), u32> {
     let Some((entry_size, revision)) = sfi_kind(&slice[..4]) else {
         return Err(42);
     };
-    if slice[8] != revision {
+    if slice[8] < revision {
         return Err(44);
     }
     let entries = length - SFI_HEADER_SIZE;

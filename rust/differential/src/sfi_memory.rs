@@ -47,8 +47,8 @@ pub fn false_signatures(random: &mut Random, fault: u32) -> Vec<u8> {
     };
     put_word(&mut lead, LENGTH, length);
     lead[REVISION] = match fault {
-        44 => random.pick(&[0, 2, 3, 255]),
-        _ => SYST.revision,
+        44 => SYST.revision - 1,
+        _ => SYST.any_revision(random),
     };
     let mut table = lead.repeat(2);
     table.truncate(HEADER_SIZE + 1);
@@ -64,9 +64,14 @@ pub fn false_signatures(random: &mut Random, fault: u32) -> Vec<u8> {
 /// Revision and Checksum. Among false signatures no other header becomes right by it, if the Length
 /// is the header's.
 pub fn lay_syst(memory: &mut [u8], offset: usize, length: usize) {
+    lay_syst_of(memory, offset, length, SYST.revision);
+}
+
+/// The same of another Revision.
+pub fn lay_syst_of(memory: &mut [u8], offset: usize, length: usize, revision: u8) {
     let table = &mut memory[offset..];
     put(table, 0, &SYST.signature);
     put_word(table, LENGTH, length);
-    table[REVISION] = SYST.revision;
+    table[REVISION] = revision;
     seal(table);
 }

@@ -19,12 +19,15 @@ pub const ORDER: [u32; 5] = [40, 42, 44, 43, 41];
 pub struct Kind {
     pub signature: [u8; 4],
     pub entry_size: usize,
+    /// The oldest that is read.
     pub revision: u8,
 }
 
 pub const SYST: Kind = kind(b"SYST", 8, 1);
 pub const CPUS: Kind = kind(b"CPUS", 4, 1);
 pub const MMAP: Kind = kind(b"MMAP", 36, 1);
+pub const FREQ: Kind = kind(b"FREQ", 12, 1);
+pub const MTMR: Kind = kind(b"MTMR", 16, 2);
 pub const WAKE: Kind = kind(b"WAKE", 8, 2);
 
 /// The list is not the reference's, so that the two are compared.
@@ -33,11 +36,11 @@ pub const KINDS: [Kind; 10] = [
     CPUS,
     kind(b"APIC", 8, 1),
     MMAP,
-    kind(b"FREQ", 12, 1),
+    FREQ,
     kind(b"MRTC", 12, 1),
     kind(b"DEVS", 25, 1),
     kind(b"GPIO", 34, 1),
-    kind(b"MTMR", 16, 2),
+    MTMR,
     WAKE,
 ];
 
@@ -66,6 +69,16 @@ impl Kind {
             &WAKE => length == 32,
             _ => (length - HEADER_SIZE).is_multiple_of(self.entry_size),
         }
+    }
+
+    /// A Revision from the listed one on.
+    pub fn any_revision(&self, random: &mut Random) -> u8 {
+        let any = random.within(self.revision as usize..=255) as u8;
+        random.pick(&[self.revision, self.revision, self.revision + 1, 255, any])
+    }
+
+    fn older_revision(&self, random: &mut Random) -> u8 {
+        random.within(0..=self.revision as usize - 1) as u8
     }
 
     /// Numbers of entries, none to as many as there can be.
@@ -109,7 +122,7 @@ pub fn of_length(random: &mut Random, kind: &Kind, length: usize) -> Vec<u8> {
     let mut table = random.bytes(length.max(HEADER_SIZE));
     put(&mut table, 0, &kind.signature);
     put_word(&mut table, LENGTH, length);
-    table[REVISION] = kind.revision;
+    table[REVISION] = kind.any_revision(random);
     seal(&mut table);
     table
 }
@@ -134,6 +147,15 @@ fn summed(table: &[u8]) -> usize {
 
 /// A table with these faults, wherever it stands: what follows it changes nothing.
 pub fn spoilt(random: &mut Random, kind: &Kind, faults: Faults) -> Vec<u8> {
+    let revision = match faults.has(44) {
+        true => kind.older_revision(random),
+        false => kind.any_revision(random),
+    };
+    spoilt_of(random, kind, revision, faults)
+}
+
+/// The same of that Revision, whatever the faults say of it.
+pub fn spoilt_of(random: &mut Random, kind: &Kind, revision: u8, faults: Faults) -> Vec<u8> {
     let length = if faults.has(43) {
         unfit_length(random, kind)
     } else {
@@ -143,9 +165,7 @@ pub fn spoilt(random: &mut Random, kind: &Kind, faults: Faults) -> Vec<u8> {
     if faults.has(42) {
         put(&mut table, 0, &unknown(random));
     }
-    if faults.has(44) {
-        table[REVISION] = wrong_revision(random, kind.revision);
-    }
+    table[REVISION] = revision;
     if faults.has(40) {
         put_word(&mut table, LENGTH, illegal_length(random, length));
     }
@@ -200,12 +220,6 @@ pub fn unknown(random: &mut Random) -> [u8; 4] {
     }
     assert!(!is_known(signature), "{signature:02x?}");
     signature
-}
-
-fn wrong_revision(random: &mut Random, listed: u8) -> u8 {
-    let other = 3 - listed; // 1 and 2 are listed
-    let any = listed.wrapping_add(random.within(1..=255) as u8);
-    random.pick(&[0, other, 3, listed | 0x10, listed | 0x80, 255, any])
 }
 
 /// Changes one byte of the sum that no other check reads.

@@ -179,8 +179,8 @@ fn syst_at_the_end_of_a_page() {
     }
 }
 
-/// The entry size and the revision of each kind: two entries, but for WAKE, and the second one's
-/// place.
+/// The entry size and the first revision of each kind: two entries, but for WAKE, and the second
+/// one's place.
 #[test]
 fn kinds_of_sfi_tables() {
     let mut machine = sfi::Machine::new(&mut Random::new(75));
@@ -197,11 +197,16 @@ fn kinds_of_sfi_tables() {
         assert_eq!(machine.entry(&table, 0), Ok(24), "{signature:?}");
         assert_eq!(machine.entry(&table, 1), Ok(24 + size), "{signature:?}");
         assert_eq!(machine.entry(&table, 2), Err(45), "{signature:?}");
-        let other = sfi_table(signature, 3 - revision, 24 + 2 * size);
-        assert_eq!(machine.entry(&other, 0), Err(44), "{signature:?}");
+        let older = sfi_table(signature, revision - 1, 24 + 2 * size);
+        assert_eq!(machine.entry(&older, 0), Err(44), "{signature:?}");
+        for newer in [revision + 1, 255] {
+            let table = sfi_table(signature, newer, 24 + 2 * size);
+            assert_eq!(machine.entry(&table, 1), Ok(24 + size), "{signature:?}");
+        }
     }
     assert_eq!(machine.entry(&sfi_table(b"WAKE", 2, 32), 0), Ok(24));
     assert_eq!(machine.entry(&sfi_table(b"WAKE", 2, 32), 1), Err(45));
     assert_eq!(machine.entry(&sfi_table(b"WAKE", 1, 32), 0), Err(44));
+    assert_eq!(machine.entry(&sfi_table(b"WAKE", 3, 32), 0), Ok(24));
     assert_eq!(machine.entry(&sfi_table(b"WAKE", 2, 40), 0), Err(43));
 }

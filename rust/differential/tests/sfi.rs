@@ -6,11 +6,11 @@ use differential::faults::Faults;
 use differential::random::Random;
 use differential::sfi::Machine;
 use differential::sfi_memory::{
-    any_place, false_signatures, in_one_page, lay_syst, no_hit, PAGE, STEP,
+    any_place, false_signatures, in_one_page, lay_syst, lay_syst_of, no_hit, PAGE, STEP,
 };
 use differential::sfi_tables::{
-    any_table, extend, faulty, is_known, of_length, seal, spoilt, table, unknown, Kind, CHECKSUM,
-    KINDS, LENGTH, MMAP, ORDER, REVISION, SYST, WAKE,
+    any_table, extend, faulty, is_known, of_length, seal, spoilt, spoilt_of, table, unknown, Kind,
+    CHECKSUM, KINDS, LENGTH, MMAP, ORDER, REVISION, SYST, WAKE,
 };
 use differential::tables::{put, put_word, word};
 use hoursquall::sfi::{HEADER_SIZE, MEMORY_SIZE, TABLE_MAX};
@@ -158,21 +158,70 @@ fn all_short_slices() {
     machine.assert_entries("SFI, short slices", &[0, 40, 43, 45], 100);
 }
 
-/// Each Revision of each kind: just one passes.
+/// Each Revision of each kind, alone and with each set of other faults: 44 is due below the listed
+/// one.
 #[test]
 fn each_revision() {
     let mut random = Random::new(115);
     let mut machine = Machine::new(&mut random);
     for kind in &KINDS {
         for revision in 0..=255 {
-            let mut table = any_table(&mut random, kind);
-            table[REVISION] = revision;
-            seal(&mut table);
-            let refusal = (revision != kind.revision).then_some(44);
-            assert_eq!(machine.check(&table).err(), refusal, "{kind:?}, {revision}");
+            for set in 0..32 {
+                let faults = Faults::new(&ORDER, set);
+                if faults.has(44) != (revision < kind.revision) {
+                    continue;
+                }
+                let mut table = spoilt_of(&mut random, kind, revision, faults);
+                extend(&mut random, &mut table);
+                let answer = machine.check(&table);
+                assert_eq!(answer.err(), faults.first(), "{kind:?}, {revision}");
+                let answer = machine.entry(&table, usize::MAX);
+                assert_eq!(answer, Err(faults.first().unwrap_or(45)));
+            }
         }
     }
-    machine.assert_checks("SFI, each Revision", &[0, 44], 10);
+    machine.assert_checks("SFI, each Revision", &CHECK_ANSWERS, 40);
+    machine.assert_entries("SFI, each Revision", &ENTRY_ANSWERS[1..], 40);
+}
+
+/// Each Revision of SYST, before a hit.
+#[test]
+fn each_revision_of_syst() {
+    let mut random = Random::new(136);
+    let mut machine = Machine::new(&mut random);
+    for revision in 0..=255 {
+        let mut memory = no_hit(&mut random);
+        lay_syst_of(&mut memory, 64, 24, revision);
+        lay_syst(&mut memory, 128, 24);
+        let lowest = if revision < 1 { 128 } else { 64 };
+        assert_eq!(machine.find_syst(&memory), Ok(lowest), "{revision}");
+    }
+    machine.assert_searches("SFI, each Revision of SYST", &[0], 256);
+}
+
+/// Each Revision of the board's table, and of the built-in one.
+#[test]
+fn each_revision_chosen() {
+    let mut random = Random::new(137);
+    let mut machine = Machine::new(&mut random);
+    let none = Faults::new(&ORDER, 0);
+    for kind in &KINDS {
+        for revision in 0..=255 {
+            let offer = spoilt_of(&mut random, kind, revision, none);
+            let listed = spoilt_of(&mut random, kind, kind.revision, none);
+            let mut choose = |board, built_in| machine.choose(kind.word(), board, built_in);
+            let passes = revision >= kind.revision;
+            let board = Ok((Source::Board, offer.len()));
+            let built_in = Ok((Source::BuiltIn, listed.len()));
+            assert_eq!(
+                choose(&offer, &listed),
+                if passes { board } else { built_in }
+            );
+            let built_in = Ok((Source::BuiltIn, offer.len()));
+            assert_eq!(choose(&[], &offer), if passes { built_in } else { Err(48) });
+        }
+    }
+    machine.assert_choices("SFI, each Revision chosen", &[101, 102, 48], 12);
 }
 
 /// Each letter of each signature as any other byte, and signatures from further away.
@@ -214,11 +263,12 @@ fn each_kind_as_another() {
             for count in kind.counts() {
                 let mut table = table(&mut random, kind, count);
                 put(&mut table, 0, &other.signature);
+                table[REVISION] = kind.revision;
                 seal(&mut table);
-                let expected = match kind.revision == other.revision {
-                    true if other.has_length(table.len()) => None,
-                    true => Some(43),
-                    false => Some(44),
+                let expected = match kind.revision < other.revision {
+                    true => Some(44),
+                    false if other.has_length(table.len()) => None,
+                    false => Some(43),
                 };
                 assert_eq!(machine.check(&table).err(), expected, "{kind:?}, {other:?}");
             }
@@ -346,7 +396,7 @@ fn loosen(random: &mut Random, slice: &mut [u8]) {
     let word = random.u32() as usize;
     let length = random.pick(&[fit, fit, fit, slice.len(), any, 24, 32, word]);
     put_word(slice, LENGTH, length);
-    slice[REVISION] = random.pick(&[1, 1, 2, kind.revision, kind.revision, 0, 3, 255]);
+    slice[REVISION] = random.pick(&[0, 0, 0, 1, 1, 2, kind.revision, 255]);
     if random.within(0..=3) > 0 {
         seal(slice);
     }

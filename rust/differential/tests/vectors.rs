@@ -3,8 +3,8 @@
 
 use differential::random::Random;
 use differential::report;
-use differential::sfi_memory::lay_syst;
-use differential::sfi_tables::{self, Kind, CPUS, MMAP, WAKE};
+use differential::sfi_memory::{lay_syst, lay_syst_of};
+use differential::sfi_tables::{self, Kind, CPUS, FREQ, MMAP, MTMR, WAKE};
 use differential::tables::{self, put, put_word, word};
 use differential::tables::{CHECKSUM, COUNT, ROOT_NAME, TOTAL, VERSION};
 use reference::frame::{self, Envelope, Refusal};
@@ -453,24 +453,49 @@ fn sfi_tables() -> Vec<String> {
             check("CPUS of 28 bytes", &cpus),
             check("its first 27 bytes", failing),
             check("another signature", &resealed_sfi(&cpus, 3, b'X')),
-            check("Revision 2", &resealed_sfi(&cpus, sfi_tables::REVISION, 2)),
             check("Length 27", &resealed_sfi(&cpus, sfi_tables::LENGTH, 27)),
             check("Checksum 0", &changed(&cpus, sfi_tables::CHECKSUM, 0)),
             check("MMAP with an entry of 40 bytes", &laid(&MMAP, 64)),
             check("WAKE of 40 bytes", &laid(&WAKE, 40)),
             check("WAKE of 32 bytes", &laid(&WAKE, 32)),
+            check("FREQ of Revision 0", &revised(&FREQ, 36, 0)),
+            check("FREQ of Revision 1", &revised(&FREQ, 36, 1)),
+            check("FREQ of Revision 2", &revised(&FREQ, 36, 2)),
+            check("FREQ of Revision 255", &revised(&FREQ, 36, 255)),
+            check(
+                "FREQ of Revision 2 with an entry of 16 bytes",
+                &revised(&FREQ, 40, 2),
+            ),
+            check("MTMR of Revision 1", &revised(&MTMR, 40, 1)),
+            check("MTMR of Revision 3", &revised(&MTMR, 40, 3)),
+            check("WAKE of Revision 1", &revised(&WAKE, 32, 1)),
+            check("WAKE of Revision 3", &revised(&WAKE, 32, 3)),
             entry("entry 0", &cpus, 0),
             entry("entry 1", &cpus, 1),
             entry("entry 1, MMAP of 96 bytes", &laid(&MMAP, 96), 1),
             find_syst("at 4064 with Length 32", &memory(&[(4064, 32)])),
             find_syst("at 4064 and at 8192", &memory(&[(4064, 32), (8192, 32)])),
             find_syst("at 4064 with Length 40", &memory(&[(4064, 40)])),
+            find_syst("at 4064 of Revision 0", &memory_of(0)),
+            find_syst("at 4064 of Revision 2", &memory_of(2)),
             find_syst("131071 bytes", &memory(&[(4064, 40)])[..131_071]),
             choose("choose CPUS, the board's passes", b"CPUS", &cpus, failing),
             choose(
                 "choose CPUS, both pass, the built-in one with 28 bytes",
                 b"CPUS",
                 &two_cpus,
+                &cpus,
+            ),
+            choose(
+                "choose CPUS, the board's is of Revision 2",
+                b"CPUS",
+                &revised(&CPUS, 32, 2),
+                &cpus,
+            ),
+            choose(
+                "choose CPUS, the board's is of Revision 0",
+                b"CPUS",
+                &revised(&CPUS, 32, 0),
                 &cpus,
             ),
             choose("choose CPUS, the board's fails", b"CPUS", failing, &cpus),
@@ -482,10 +507,15 @@ fn sfi_tables() -> Vec<String> {
 
 /// A table of this kind and Length, the rest 0, and the checksum that it needs.
 fn laid(kind: &Kind, length: usize) -> Vec<u8> {
+    revised(kind, length, kind.revision)
+}
+
+/// The same of another Revision.
+fn revised(kind: &Kind, length: usize, revision: u8) -> Vec<u8> {
     let mut table = vec![0; length];
     put(&mut table, 0, &kind.signature);
     put_word(&mut table, sfi_tables::LENGTH, length);
-    table[sfi_tables::REVISION] = kind.revision;
+    table[sfi_tables::REVISION] = revision;
     sfi_tables::seal(&mut table);
     table
 }
@@ -508,6 +538,13 @@ fn memory(places: &[(usize, usize)]) -> Vec<u8> {
     for &(offset, length) in places {
         lay_syst(&mut memory, offset, length);
     }
+    memory
+}
+
+/// Zeros, and a SYST of that Revision at 4064.
+fn memory_of(revision: u8) -> Vec<u8> {
+    let mut memory = vec![0; 131_072];
+    lay_syst_of(&mut memory, 4064, 32, revision);
     memory
 }
 

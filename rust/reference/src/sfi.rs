@@ -17,6 +17,7 @@ pub type Signature = [u8; 4];
 pub struct Kind {
     pub signature: Signature,
     pub entry_size: usize,
+    /// The oldest that is read.
     pub revision: u8,
 }
 
@@ -67,7 +68,7 @@ pub fn check(slice: &[u8]) -> Result<Table, Refusal> {
     let signature = [slice[0], slice[1], slice[2], slice[3]];
     let kind = listed(signature).ok_or(42u32)?;
     let revision = slice[8];
-    if revision != kind.revision {
+    if revision < kind.revision {
         return Err(44);
     }
     if !(length - HEADER_SIZE).is_multiple_of(kind.entry_size) {
@@ -202,10 +203,36 @@ mod tests {
         assert_eq!(check(&changed(&table, 4, 23)), Some(40));
         assert_eq!(check(&changed(&table, 4, 37)), Some(40));
         assert_eq!(check(&sealed(changed(&table, 0, b'f'))), Some(42));
-        assert_eq!(check(&sealed(changed(&table, 8, 2))), Some(44));
+        assert_eq!(check(&sealed(changed(&table, 8, 0))), Some(44));
         assert_eq!(check(&sealed(changed(&table, 4, 35))), Some(43));
         assert_eq!(check(&changed(&table, 35, 1)), Some(41));
         assert_eq!(check(&[&table[..], &[1, 2, 3]].concat()), None);
+    }
+
+    /// "Larger revision numbers are backward compatible to lower revision numbers": each Revision of
+    /// each kind, alone and with another fault.
+    #[test]
+    fn revisions() {
+        for kind in KINDS {
+            for revision in 0..=255 {
+                let length = HEADER_SIZE + kind.entry_size;
+                let table = table(&kind.signature, revision, length);
+                let check = |bytes: &[u8]| check(bytes).err();
+                let older = (revision < kind.revision).then_some(44);
+                assert_eq!(check(&table), older);
+                assert_eq!(check(&table[..length - 1]), Some(40));
+                assert_eq!(check(&sealed(changed(&table, 0, b'?'))), Some(42));
+                let uneven = sealed(changed(&table, 4, length as u8 - 1));
+                assert_eq!(check(&uneven), older.or(Some(43)));
+                let unsealed = changed(&table, 10, 1);
+                assert_eq!(check(&unsealed), older.or(Some(41)));
+            }
+        }
+        assert_eq!(check(&table(b"FREQ", 2, 24 + 16)), Err(43));
+        let tables = [(16, table(b"SYST", 0, 24)), (64, table(b"SYST", 2, 24))];
+        assert_eq!(find_syst(&memory(&tables)), Ok(64));
+        let (board, built_in) = (table(b"APIC", 2, 32), table(b"APIC", 1, 40));
+        assert_eq!(choose(*b"APIC", &board, &built_in), Ok((Source::Board, 32)));
     }
 
     #[test]

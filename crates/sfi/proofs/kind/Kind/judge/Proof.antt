@@ -2,24 +2,24 @@
 -- Assumes nothing.
 use mathlib.Core.Bool.{false}
 use mathlib.Core.Path.{_≡_, refl, sym, ap, _∙_}
-use Rattle.sfi.specs.Checks.{revisionOf, wrongRevision}
+use Rattle.sfi.specs.Checks.{revisionOf, olderRevision}
 use Rattle.sfi.proofs.Answers.{judged-tested}
 use borrow.Author.Needs.{needs}
 use Rattle.sfi.proofs.kind.Kind.judge.Statement.{statement}
 use Rattle.sfi.proofs.kind.Kind.judge.Tie as tie
 
 -- the test of Revision
-abbrev start : tie.After-has-other-revision → tie.Start
+abbrev start : tie.After-has-older-revision → tie.Start
 start c = c .before .before .before
 
-revision : (c : tie.After-has-other-revision) → c .has-other-revision .result ≡ wrongRevision (start c .args .self) (revisionOf (start c .args .header .now))
-revision c = c .has-other-revision .ensures ∙ ap (wrongRevision (start c .args .self)) (c .before .u8-at .ensures)
+revision : (c : tie.After-has-older-revision) → c .has-older-revision .result ≡ olderRevision (start c .args .self) (revisionOf (start c .args .header .now))
+revision c = c .has-older-revision .ensures ∙ ap (olderRevision (start c .args .self)) (c .before .u8-at .ensures)
 
 returns : tie.Need-returns
 returns c = sym (judged-tested _ _ refl (sym (revision (c .before)) ∙ c .if1 .taken) refl)
 
 -- past it
-listed : (c : tie.Else1) → wrongRevision (start (c .before) .args .self) (revisionOf (start (c .before) .args .header .now)) ≡ false
+listed : (c : tie.Else1) → olderRevision (start (c .before) .args .self) (revisionOf (start (c .before) .args .header .now)) ≡ false
 listed c = sym (revision (c .before)) ∙ c .if1 .left
 
 returns-2 : tie.Need-returns-2
