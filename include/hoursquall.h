@@ -66,8 +66,8 @@ enum {
 };
 
 /* Signatures of SFI tables, each the little-endian word of its four letters. Beside each
- * stand the size of an entry in bytes, and the first Revision that is read: a newer table is
- * read as one of that Revision. */
+ * stand the size of an entry in bytes, and the listed Revision: newer ones are read like
+ * it, with entries of that size. */
 enum {
     HS_SFI_SYST = 0x54535953, /* 8, Revision 1 */
     HS_SFI_CPUS = 0x53555043, /* 4, Revision 1 */

@@ -69,6 +69,32 @@ pub sum-tested : (t : List ℕ) (table : Table) {a : Bool} → headerChecked (le
     → checked t ≡ cond a (Refused WrongSum) (Passed table)
 sum-tested t table p q = header-then t p ∙ rw q
 
+-- 44 comes from the header, and there from the test of Revision
+refused-by-header : (t : List ℕ) (c : Checked) → headerChecked (length t) t ≡ c → checked t ≡ Refused WrongRevision → c ≡ Refused WrongRevision
+refused-by-header t (Refused reason) q e = sym (header-then t q) ∙ e
+refused-by-header t (Passed table) q e = let z = past (wrongSum (summedPart table t)) (λ x. apart (cc)) (sym (header-then t q) ∙ e) .1 in apart (cc)
+
+refused-by-revision : (kind : Kind) (t : List ℕ) (b : Bool) → olderRevision kind (revisionOf t) ≡ b → judged kind t ≡ Refused WrongRevision → b ≡ true
+refused-by-revision kind t true q e = refl
+refused-by-revision kind t false q e =
+    let z = past (badEntries kind (lengthOf t)) (λ x. apart (cc)) (sym (judged-tested kind t refl q refl) ∙ e) .1 in apart (cc)
+
+pub refused-older : RefusedOlder
+unfolding headerChecked
+refused-older t e =
+    let s = past (badLength (length t) (lengthOf t)) (λ q. apart (cc)) (refused-by-header t _ refl e) in
+    go (sized (length t) (lengthOf t) (s .0)) (kindOf (signatureOf t)) refl (s .1)
+  where
+    go : Sized (length t) (lengthOf t) → (m : Known) → kindOf (signatureOf t) ≡ m → judgedAs m t ≡ Refused WrongRevision → Older t
+    go s Unknown q e = apart (cc)
+    go s (Is k) q e = record { kind = k; sized = s; known = q; below = ltb-true _ _ (refused-by-revision k t _ refl e) }
+
+pub older-refused : OlderRefused
+older-refused t h =
+    header-then t
+    (header-tested (length t) t (good-length _ _ (h .sized)) (h .known)
+    ∙ judged-tested (h .kind) t refl (lt-ltb _ _ (h .below)) refl)
+
 -- what passes has a header that does, and its sum
 pub past-sum : (t : List ℕ) (table : Table) → checked t ≡ Passed table → (headerChecked (length t) t ≡ Passed table) × (sum 1 (summedPart table t) ≡ 0)
 past-sum t table e = go (headerChecked (length t) t) refl
@@ -105,32 +131,6 @@ passes-only t table e =
           zero = ap (λ (x : Table). sum 1 (summedPart x t)) is ∙ z;
           length-is = refl;
         })
-
-pub older-refused : OlderRefused
-older-refused t h =
-    header-then t
-    (header-tested (length t) t (good-length _ _ (h .sized)) (h .known)
-    ∙ judged-tested (h .kind) t refl (lt-ltb _ _ (h .below)) refl)
-
--- 44 comes from the header, and there from the test of Revision
-refused-by-header : (t : List ℕ) (c : Checked) → headerChecked (length t) t ≡ c → checked t ≡ Refused WrongRevision → c ≡ Refused WrongRevision
-refused-by-header t (Refused reason) q e = sym (header-then t q) ∙ e
-refused-by-header t (Passed table) q e = let z = past (wrongSum (summedPart table t)) (λ x. apart (cc)) (sym (header-then t q) ∙ e) .1 in apart (cc)
-
-refused-by-revision : (kind : Kind) (t : List ℕ) (b : Bool) → olderRevision kind (revisionOf t) ≡ b → judged kind t ≡ Refused WrongRevision → b ≡ true
-refused-by-revision kind t true q e = refl
-refused-by-revision kind t false q e =
-    let z = past (badEntries kind (lengthOf t)) (λ x. apart (cc)) (sym (judged-tested kind t refl q refl) ∙ e) .1 in apart (cc)
-
-pub refused-older : RefusedOlder
-unfolding headerChecked
-refused-older t e =
-    let s = past (badLength (length t) (lengthOf t)) (λ q. apart (cc)) (refused-by-header t _ refl e) in
-    go (sized (length t) (lengthOf t) (s .0)) (kindOf (signatureOf t)) refl (s .1)
-  where
-    go : Sized (length t) (lengthOf t) → (m : Known) → kindOf (signatureOf t) ≡ m → judgedAs m t ≡ Refused WrongRevision → Older t
-    go s Unknown q e = apart (cc)
-    go s (Is k) q e = record { kind = k; sized = s; known = q; below = ltb-true _ _ (refused-by-revision k t _ refl e) }
 
 -- a table that passes has the signature of its kind
 pub passes-as : (t : List ℕ) (table : Table) (signature : ℕ) → checked t ≡ Passed table → passesAs signature (checked t) ≡ eqb (signatureOf t) signature
