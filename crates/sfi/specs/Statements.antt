@@ -76,7 +76,7 @@ pub record Passing (t : List ℕ) (table : Table) : Type 0 where
 abbrev pub PassesOnly : Type 0
 PassesOnly = (t : List ℕ) (table : Table) → checked t ≡ Passed table → Passing t table
 
--- `older-refused`, `refused-older`. 44 exactly where 40 and 42 are not due, and Revision is below that of the kind, whatever Length and the sum are.
+-- `older-refused`, `refused-older`. 44 exactly where 40 and 42 are not due and Revision is below that of the kind, also if 43 or 41 would be due.
 pub record Older (t : List ℕ) : Type 0 where
   pub kind : Kind
   pub sized : Sized (length t) (word 4 (drop 4 t))
