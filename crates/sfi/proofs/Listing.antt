@@ -29,7 +29,7 @@ pub record Listed (signature : ℕ) (k : Kind) : Type 0 where
   pub signed : signature ≡ k .signature
   pub entries : 0 < k .entry
   pub word : k .signature < 2 ^ 32
-  pub some : 0 < k .revision
+  pub not-zero : 0 < k .revision
   pub byte : k .revision < 2 ^ 8
 
 -- each of them has entries, a signature and a revision that fit their places, and no revision 0
@@ -45,7 +45,7 @@ known signature k signed h =
     let p = both (ltb 0 (k .entry)) _ h in
     let q = both (ltb (k .signature) (2 ^ 32)) _ (p .1) in
     let r = both (ltb 0 (k .revision)) _ (q .1) in
-    record { signed = signed; entries = ltb-true _ _ (p .0); word = ltb-true _ _ (q .0); some = ltb-true _ _ (r .0); byte = ltb-true _ _ (r .1) }
+    record { signed = signed; entries = ltb-true _ _ (p .0); word = ltb-true _ _ (q .0); not-zero = ltb-true _ _ (r .0); byte = ltb-true _ _ (r .1) }
 
 listed-among : (ks : List Kind) (signature : ℕ) (k : Kind) → all-fit ks ≡ true → among ks signature ≡ Is k → Listed signature k
 listed-among [] signature k h e = let z = sym (nowhere signature) ∙ e in apart (cc)

@@ -44,7 +44,7 @@ unfolding among
 kinds-known = (refl, refl, refl, refl, refl, refl, refl, refl, refl, refl)
 
 pub revisions-fit : RevisionsFit
-revisions-fit signature kind e = let h = listed signature kind e in (h .some, omega (arith, h .byte))
+revisions-fit signature kind e = let h = listed signature kind e in (h .not-zero, omega (arith, h .byte))
 
 -- one kind has one signature
 pub same-kind : (signature : ℕ) (j k : Kind) → kindOf signature ≡ Is j → kindOf signature ≡ Is k → j ≡ k

@@ -1,4 +1,4 @@
--- Document 01, "SFI tables" (002): the check of a table, and its entries.
+-- Document 01, "SFI tables" (002), as 02 changes it (Q-1): the check of a table, and its entries.
 -- Assumes nothing.
 use Prim.Native.Nat.{ℕ, _+_, _*_, _-_, _/_, _%_}
 use mathlib.Core.Bool.{Bool, false, cond, not, _&&_, _||_}

@@ -1,4 +1,5 @@
 -- Document 01, "SFI tables": "Each table kind carries its own entry size and revision". One table of the kinds, which check, entry, search and choice all cite.
+-- A revision is the oldest that is read (Q-1).
 -- Assumes nothing.
 use Prim.Native.Nat.{ℕ}
 use mathlib.Core.Bool.{cond}

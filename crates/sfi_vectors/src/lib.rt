@@ -156,7 +156,7 @@ fn run_checks(cpus: &[u8]) {
     );
 }
 
-// Revisions are read from the listed one on: 1, and 2 for MTMR and WAKE. A newer table keeps the size of its entries.
+// Revisions are read from the listed one on: 1, and 2 for MTMR and WAKE. A newer table has entries of the listed size.
 fn run_revisions() {
     let freq_1 = check_laid(Kind::FREQ, 36, 1);
     let freq_2 = check_laid(Kind::FREQ, 36, 2);

@@ -509,7 +509,7 @@ fn sfi_table(slice: &[u8]) -> Result<(&[u8], usize), u32> {
     Ok((table, entry_size))
 }
 
-/// The entry size and the revision of a kind.
+/// The entry size of a kind, and the oldest revision that is read.
 #[inline(always)]
 fn sfi_kind(signature: &[u8]) -> Option<(usize, u8)> {
     match signature {

@@ -67,7 +67,7 @@ pub fn lay_syst(memory: &mut [u8], offset: usize, length: usize) {
     lay_syst_of(memory, offset, length, SYST.revision);
 }
 
-/// The same of another Revision.
+/// The same of that Revision.
 pub fn lay_syst_of(memory: &mut [u8], offset: usize, length: usize, revision: u8) {
     let table = &mut memory[offset..];
     put(table, 0, &SYST.signature);

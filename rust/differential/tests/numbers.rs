@@ -179,8 +179,8 @@ fn syst_at_the_end_of_a_page() {
     }
 }
 
-/// The entry size and the first revision of each kind: two entries, but for WAKE, and the second
-/// one's place.
+/// The entry size of each kind, and the oldest revision that is read: two entries, but for WAKE, and
+/// the second one's place.
 #[test]
 fn kinds_of_sfi_tables() {
     let mut machine = sfi::Machine::new(&mut Random::new(75));

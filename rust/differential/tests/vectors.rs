@@ -510,7 +510,7 @@ fn laid(kind: &Kind, length: usize) -> Vec<u8> {
     revised(kind, length, kind.revision)
 }
 
-/// The same of another Revision.
+/// The same of that Revision.
 fn revised(kind: &Kind, length: usize, revision: u8) -> Vec<u8> {
     let mut table = vec![0; length];
     put(&mut table, 0, &kind.signature);

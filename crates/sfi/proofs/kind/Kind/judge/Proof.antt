@@ -19,18 +19,18 @@ returns : tie.Need-returns
 returns c = sym (judged-tested _ _ refl (sym (revision (c .before)) ∙ c .if1 .taken) refl)
 
 -- past it
-listed : (c : tie.Else1) → olderRevision (start (c .before) .args .self) (revisionOf (start (c .before) .args .header .now)) ≡ false
-listed c = sym (revision (c .before)) ∙ c .if1 .left
+not-older : (c : tie.Else1) → olderRevision (start (c .before) .args .self) (revisionOf (start (c .before) .args .header .now)) ≡ false
+not-older c = sym (revision (c .before)) ∙ c .if1 .left
 
 returns-2 : tie.Need-returns-2
 returns-2 c =
     let read = c .before .before in
-    sym (judged-tested _ _ (read .length-of .ensures) (listed (read .before)) (sym (c .before .has-bad-entries .ensures) ∙ c .if2 .taken))
+    sym (judged-tested _ _ (read .length-of .ensures) (not-older (read .before)) (sym (c .before .has-bad-entries .ensures) ∙ c .if2 .taken))
 
 returns-3 : tie.Need-returns-3
 returns-3 c =
     let read = c .before .before in
-    sym (judged-tested _ _ (read .length-of .ensures) (listed (read .before)) (sym (c .before .has-bad-entries .ensures) ∙ c .if2 .left))
+    sym (judged-tested _ _ (read .length-of .ensures) (not-older (read .before)) (sym (c .before .has-bad-entries .ensures) ∙ c .if2 .left))
 
 pub judge-spec : {M : Type 1} → statement M
 judge-spec =
