@@ -161,7 +161,6 @@ fn run_revisions() {
     let freq_1 = check_laid(Kind::FREQ, 36, 1);
     let freq_2 = check_laid(Kind::FREQ, 36, 2);
     let freq_255 = check_laid(Kind::FREQ, 36, 255);
-    let longer = laid_refusal(Kind::FREQ, 40, 2);
     let mtmr_3 = check_laid(Kind::MTMR, 40, 3);
     let wake_3 = check_laid(Kind::WAKE, 32, 3);
     let said = [
@@ -169,7 +168,7 @@ fn run_revisions() {
         freq_1.given,
         freq_2.given,
         freq_255.given,
-        longer,
+        laid_refusal(Kind::FREQ, 40, 2),
         laid_refusal(Kind::MTMR, 40, 1),
         mtmr_3.given,
         laid_refusal(Kind::WAKE, 32, 1),

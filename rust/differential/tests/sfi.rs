@@ -34,15 +34,21 @@ fn faults_of_tables() {
         let faults = Faults::new(&ORDER, case % 32);
         let kind = &KINDS[case / 32 % KINDS.len()];
         let table = faulty(&mut random, kind, faults);
-        let answer = machine.check(&table);
-        assert_eq!(answer.err(), faults.first(), "{faults:?}, {kind:?}");
         let k = random.pick(&[0, 0, 1, 2, usize::MAX]);
-        let answer = machine.entry(&table, k);
-        let refusal = answer.err().filter(|&refusal| refusal != 45);
-        assert_eq!(refusal, faults.first(), "{faults:?}, {kind:?}");
+        assert_refused(&mut machine, &table, k, faults);
     }
     machine.assert_checks("SFI, faults of tables", &CHECK_ANSWERS, 1000);
     machine.assert_entries("SFI, faults of tables", &ENTRY_ANSWERS, 1000);
+}
+
+/// The check and the entry `k` are refused with the first of the faults, if there is one; the entry
+/// may also not be there.
+fn assert_refused(machine: &mut Machine, table: &[u8], k: usize, faults: Faults) {
+    let check = machine.check(table).err();
+    assert_eq!(check, faults.first(), "{table:02x?}");
+    let entry = machine.entry(table, k).err();
+    let entry = entry.filter(|&refusal| refusal != 45);
+    assert_eq!(entry, faults.first(), "{table:02x?}, entry {k}");
 }
 
 /// Each kind with no entry, with one, with many, and with as many as there can be; one more is too
@@ -173,11 +179,7 @@ fn each_revision() {
                 }
                 let mut table = spoilt_of(&mut random, kind, revision, faults);
                 extend(&mut random, &mut table);
-                let answer = machine.check(&table);
-                assert_eq!(answer.err(), faults.first(), "{kind:?}, {revision}");
-                let answer = machine.entry(&table, 0);
-                let refusal = answer.err().filter(|&refusal| refusal != 45);
-                assert_eq!(refusal, faults.first(), "{kind:?}, {revision}");
+                assert_refused(&mut machine, &table, 0, faults);
             }
         }
     }
@@ -194,7 +196,7 @@ fn each_revision_of_syst() {
         let mut memory = no_hit(&mut random);
         lay_syst_of(&mut memory, 64, 24, revision);
         lay_syst(&mut memory, 128, 24);
-        let lowest = if revision < 1 { 128 } else { 64 };
+        let lowest = if revision < SYST.revision { 128 } else { 64 };
         assert_eq!(machine.find_syst(&memory), Ok(lowest), "{revision}");
     }
     machine.assert_searches("SFI, each Revision of SYST", &[0], 256);
@@ -206,22 +208,23 @@ fn each_revision_chosen() {
     let mut random = Random::new(137);
     let mut machine = Machine::new(&mut random);
     let none = Faults::new(&ORDER, 0);
+    let board = |table: &Vec<u8>| Ok((Source::Board, table.len()));
+    let built_in = |table: &Vec<u8>| Ok((Source::BuiltIn, table.len()));
     for kind in &KINDS {
         for revision in 0..=255 {
             let offer = spoilt_of(&mut random, kind, revision, none);
             let listed = spoilt_of(&mut random, kind, kind.revision, none);
             let mut choose = |board, built_in| machine.choose(kind.word(), board, built_in);
             let passes = revision >= kind.revision;
-            let board = Ok((Source::Board, offer.len()));
-            let built_in = Ok((Source::BuiltIn, listed.len()));
-            assert_eq!(
-                choose(&offer, &listed),
-                if passes { board } else { built_in }
-            );
-            let board = Ok((Source::Board, listed.len()));
-            assert_eq!(choose(&listed, &offer), board);
-            let built_in = Ok((Source::BuiltIn, offer.len()));
-            assert_eq!(choose(&[], &offer), if passes { built_in } else { Err(48) });
+            let expected = if passes {
+                board(&offer)
+            } else {
+                built_in(&listed)
+            };
+            assert_eq!(choose(&offer, &listed), expected, "{kind:?}, {revision}");
+            let expected = if passes { built_in(&offer) } else { Err(48) };
+            assert_eq!(choose(&[], &offer), expected, "{kind:?}, {revision}");
+            assert_eq!(choose(&listed, &offer), board(&listed));
         }
     }
     machine.assert_choices("SFI, each Revision chosen", &[101, 102, 48], 12);

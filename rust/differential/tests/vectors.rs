@@ -3,7 +3,7 @@
 
 use differential::random::Random;
 use differential::report;
-use differential::sfi_memory::{lay_syst, lay_syst_of};
+use differential::sfi_memory::lay_syst_of;
 use differential::sfi_tables::{self, Kind, CPUS, FREQ, MMAP, MTMR, WAKE};
 use differential::tables::{self, put, put_word, word};
 use differential::tables::{CHECKSUM, COUNT, ROOT_NAME, TOTAL, VERSION};
@@ -473,12 +473,15 @@ fn sfi_tables() -> Vec<String> {
             entry("entry 0", &cpus, 0),
             entry("entry 1", &cpus, 1),
             entry("entry 1, MMAP of 96 bytes", &laid(&MMAP, 96), 1),
-            find_syst("at 4064 with Length 32", &memory(&[(4064, 32)])),
-            find_syst("at 4064 and at 8192", &memory(&[(4064, 32), (8192, 32)])),
-            find_syst("at 4064 with Length 40", &memory(&[(4064, 40)])),
-            find_syst("at 4064 of Revision 0", &memory_of(0)),
-            find_syst("at 4064 of Revision 2", &memory_of(2)),
-            find_syst("131071 bytes", &memory(&[(4064, 40)])[..131_071]),
+            find_syst("at 4064 with Length 32", &memory(&[(4064, 32, 1)])),
+            find_syst(
+                "at 4064 and at 8192",
+                &memory(&[(4064, 32, 1), (8192, 32, 1)]),
+            ),
+            find_syst("at 4064 with Length 40", &memory(&[(4064, 40, 1)])),
+            find_syst("at 4064 of Revision 0", &memory(&[(4064, 32, 0)])),
+            find_syst("at 4064 of Revision 2", &memory(&[(4064, 32, 2)])),
+            find_syst("131071 bytes", &memory(&[(4064, 40, 1)])[..131_071]),
             choose("choose CPUS, the board's passes", b"CPUS", &cpus, failing),
             choose(
                 "choose CPUS, both pass, the built-in one with 28 bytes",
@@ -532,19 +535,12 @@ fn checksum_of_cpus() -> String {
     format!("the checksum of CPUS with Length 28, Revision 1, the rest 0: 0x{checksum:02X}")
 }
 
-/// Zeros, and a SYST of that Length at each of these offsets.
-fn memory(places: &[(usize, usize)]) -> Vec<u8> {
+/// Zeros, and at each of these offsets a SYST of that Length and Revision.
+fn memory(places: &[(usize, usize, u8)]) -> Vec<u8> {
     let mut memory = vec![0; 131_072];
-    for &(offset, length) in places {
-        lay_syst(&mut memory, offset, length);
+    for &(offset, length, revision) in places {
+        lay_syst_of(&mut memory, offset, length, revision);
     }
-    memory
-}
-
-/// Zeros, and a SYST of that Revision at 4064.
-fn memory_of(revision: u8) -> Vec<u8> {
-    let mut memory = vec![0; 131_072];
-    lay_syst_of(&mut memory, 4064, 32, revision);
     memory
 }
 
