@@ -4,4 +4,5 @@ pub mod Copying
 pub mod Parts
 pub mod Words
 pub mod Sums
+pub mod Summing
 pub mod Tests

@@ -1,8 +1,7 @@
 -- The laws of sums of k-byte words, each once, for every width k that is not 0.
 --     total-step     the sum of all words is the first word and the sum of the rest
---     turn           what one turn of a summing loop keeps: the sum so far and the sum of the rest are the sum of all
---     passed         and what the loop has in the end
 --     sum-append     the sum of two joined lists, joined at a word's end
+--     sum-cut        the same of one list, cut there
 --     sum-replace    the sum after one aligned word is replaced by another
 --     sum-below      a sum of k-byte words is below 256 ^ k
 --     checksum       the word that brings a sum to 0
@@ -10,10 +9,10 @@
 use Prim.Native.Nat.{ℕ, zero, suc, _+_, _*_, _-_, _%_, _^_, _≤_, _<_}
 use mathlib.Core.Path.{_≡_, refl, sym, ap, _∙_}
 use mathlib.Core.List.{List, [], _∷_, _++_}
-use native.Mathlib.Nat.{add-mod, mod-add-mod, add-mod-mod, mod-eq-of-lt, mod-lt, mod-self, one-le-pow, add-assoc, add-zero, suc-mul}
+use native.Mathlib.Nat.{add-mod, mod-add-mod, add-mod-mod, mod-eq-of-lt, mod-lt, mod-self, one-le-pow, add-zero, suc-mul}
 use native.Mathlib.Omega.{arith}
-use lib.ListN.{length, drop, length-drop, drop-of-length-le}
-use lib.Seq.{drop-nil, drop-drop, drop-append-le, drop-at}
+use lib.ListN.{length, take, drop, length-drop, take-append-drop}
+use lib.Seq.{length-take-le, drop-nil, drop-append-le, drop-at}
 use Rattle.le.specs.Word.{word, bytes}
 use Rattle.le.specs.Sum.{total, totalOf, sum, checksumOf}
 use Rattle.le.proofs.Words.{word-nil, word-append, word-own, length-bytes}
@@ -46,22 +45,6 @@ total-step k (b ∷ s) p =
     ap (λ (t : ℕ). word k (b ∷ s) + t)
     (enough k (length s) (length (drop k (b ∷ s))) (drop k (b ∷ s)) p (simp length-drop (omega arith)) (omega arith))
 
-pub turn : (k at so-far next all : ℕ) (s : List ℕ) → 0 < k
-    → (so-far + totalOf k (drop at s)) % 256 ^ k ≡ all
-    → next ≡ (so-far + word k (drop at s)) % 256 ^ k
-    → (next + totalOf k (drop (at + k) s)) % 256 ^ k ≡ all
-turn k at so-far next all s p before e =
-    rw (e, mod-add-mod, add-assoc, ← drop-drop k at s, ← total-step k (drop at s) p) before
-
--- what a summing loop has in the end: no words are left, so the sum so far is the sum
-pub passed : (k at so-far : ℕ) (s : List ℕ) → length s ≤ at → so-far < 256 ^ k
-    → (so-far + totalOf k (drop at s)) % 256 ^ k ≡ totalOf k s % 256 ^ k
-    → so-far ≡ sum k s
-unfolding sum
-passed k at so-far s end fits e =
-    let none : so-far % 256 ^ k ≡ totalOf k s % 256 ^ k = simp (drop-of-length-le s {i = at} end, total-none k, add-zero) at e in
-    rw (mod-eq-of-lt fits) at none
-
 total-append : (k n : ℕ) (s t : List ℕ) → 0 < k → length s ≡ n * k → totalOf k (s ++ t) ≡ totalOf k s + totalOf k t
 total-append k zero s t p h = rw (empty s (omega arith), total-none) (omega arith)
 total-append k (suc n) s t p h =
@@ -73,6 +56,13 @@ total-append k (suc n) s t p h =
 pub sum-append : (k n : ℕ) (s t : List ℕ) → 0 < k → length s ≡ n * k → sum k (s ++ t) ≡ (sum k s + sum k t) % 256 ^ k
 unfolding sum
 sum-append k n s t p h = rw (total-append k n s t p h) (add-mod (totalOf k s) (totalOf k t) (256 ^ k))
+
+pub sum-cut : (k n at first second both : ℕ) (s : List ℕ) → 0 < k → at ≡ n * k → at ≤ length s
+    → first ≡ sum k (take at s) → second ≡ sum k (drop at s)
+    → both ≡ (first + second) % 256 ^ k
+    → both ≡ sum k s
+sum-cut k n at first second both s p whole fits e₁ e₂ e =
+    e ∙ rw (e₁, e₂, ← sum-append k n (take at s) (drop at s) p (length-take-le at s fits ∙ whole), take-append-drop at s)
 
 -- the sum of a list with the word v in it, at a word's place
 sum-around : (k n : ℕ) (s v t : List ℕ) → 0 < k → length s ≡ n * k → length v ≡ k → totalOf k (s ++ (v ++ t)) ≡ totalOf k s + (word k v + totalOf k t)

@@ -21,7 +21,7 @@ fn first_u16(s: &[u8]) -> u16
     byte(s, 0) as u16 + byte(s, 1) as u16 * 0x100
 }
 
-fn first_u32(s: &[u8]) -> u32
+pub(crate) fn first_u32(s: &[u8]) -> u32
     ensures { λ r. ⌜ r ≡ word 4 (now (s .entry)) ⌝ }
 {
     byte(s, 0) as u32
@@ -30,12 +30,22 @@ fn first_u32(s: &[u8]) -> u32
         + byte(s, 3) as u32 * 0x100_0000
 }
 
-// A byte that the slice has, and the word of eight of them: nothing is compared, so it is a single load.
+// A byte that the slice has, and the words of four and eight of them: nothing is compared, so each is a single load.
 fn byte_in(s: &[u8], i: usize) -> u8
     requires { ⌜ i < length (now s) ⌝ }
     ensures { λ r. ⌜ r ≡ getD (now (s .entry)) i 0 ⌝ }
 {
     s[i]
+}
+
+fn whole_u32(s: &[u8]) -> u32
+    requires { ⌜ 4 ≤ length (now s) ⌝ }
+    ensures { λ r. ⌜ r ≡ word 4 (now (s .entry)) ⌝ }
+{
+    byte_in(s, 0) as u32
+        + byte_in(s, 1) as u32 * 0x100
+        + byte_in(s, 2) as u32 * 0x1_0000
+        + byte_in(s, 3) as u32 * 0x100_0000
 }
 
 fn whole_u64(s: &[u8]) -> u64
@@ -52,7 +62,14 @@ fn whole_u64(s: &[u8]) -> u64
         + byte_in(s, 7) as u64 * 0x100_0000_0000_0000
 }
 
-// The word at a place from which on the slice has eight bytes.
+// The word at a place from which on the slice has all its bytes.
+pub(crate) fn inner_u32(s: &[u8], at: usize) -> u32
+    requires { ⌜ 4 ≤ length (now s) - at ⌝ }
+    ensures { λ r. ⌜ r ≡ word 4 (drop at (now (s .entry))) ⌝ }
+{
+    whole_u32(&s[at..])
+}
+
 pub(crate) fn inner_u64(s: &[u8], at: usize) -> u64
     requires { ⌜ 8 ≤ length (now s) - at ⌝ }
     ensures { λ r. ⌜ r ≡ word 8 (drop at (now (s .entry))) ⌝ }

@@ -1,8 +1,11 @@
 //! Times the library beside plain Rust with the same meaning.
 //!
 //! `bench rounds` prints what each round took, `bench table FILE ..` makes a Markdown table of the
-//! rounds of several runs. `scripts/bench.sh` does both.
+//! rounds of several runs; `bench sums` and `bench sums-table FILE ..` do so for the sums alone, and
+//! `bench clock` says how fast the processor runs. `scripts/bench.sh` does all of it.
 
+mod clock;
+mod sums;
 mod table;
 mod timing;
 
@@ -66,15 +69,17 @@ fn main() {
     match words.next().as_deref() {
         Some("rounds") => print_all_rounds(),
         Some("table") => table::print(words),
+        Some("sums") => sums::print_all_rounds(),
+        Some("sums-table") => table::print_sums(words),
+        Some("clock") => println!("{:.2} GHz", clock::gigahertz()),
         _ => {
-            eprintln!("usage: bench rounds | table FILE ..");
+            eprintln!("usage: bench rounds | table FILE .. | sums | sums-table FILE .. | clock");
             process::exit(2);
         }
     }
 }
 
 fn print_all_rounds() {
-    sums();
     parse();
     write("write, a frame of 256 B", 7);
     write("write, the last frame, 176 B", 17);
@@ -96,26 +101,6 @@ fn print_all_rounds() {
         &false_signatures(),
     );
     log_write_and_read();
-}
-
-fn sums() {
-    let lengths = [("24 B", 24), ("4 KiB", 4096), ("64 KiB", 65_536)];
-    for (name, length) in lengths {
-        let bytes = pattern(length);
-        print_rounds(
-            &format!("sum8, {name}"),
-            || library::sum8(black_box(&bytes)),
-            || baseline::sum8(black_box(&bytes)),
-        );
-    }
-    for (name, length) in lengths {
-        let bytes = pattern(length);
-        print_rounds(
-            &format!("sum32, {name}"),
-            || library::sum32(black_box(&bytes)),
-            || baseline::sum32(black_box(&bytes)),
-        );
-    }
 }
 
 fn parse() {

@@ -22,11 +22,36 @@ pub fn print(files: impl Iterator<Item = String>) {
     for Row { what, runs } in rows(files) {
         let library = best(&runs, |round| round.library);
         let rust = best(&runs, |round| round.rust);
-        let ratios = runs.iter().flatten();
-        let [low, _, high] = quartiles(ratios.map(|round| round.library / round.rust));
+        let [low, _, high] = ratios(&runs);
         let ratio = library / rust;
         println!("| {what} | {library:.1} | {rust:.1} | {ratio:.2} | {low:.2} to {high:.2} |");
     }
+}
+
+/// Prints a Markdown table of runs, each a file that `bench sums` wrote. A row has the four lengths
+/// that differ in what is over: the median times of the first, and the ratios of each.
+pub fn print_sums(files: impl Iterator<Item = String>) {
+    println!("| what | library ns | Rust ns | ratio | +1 B | +2 B | +3 B |");
+    println!("|---|---:|---:|---|---|---|---|");
+    for lengths in rows(files).chunks(4) {
+        let Row { what, runs } = &lengths[0];
+        let what = what.trim_end_matches(", +0");
+        let rounds = || runs.iter().flatten();
+        let [_, library, _] = quartiles(rounds().map(|round| round.library));
+        let [_, rust, _] = quartiles(rounds().map(|round| round.rust));
+        print!("| {what} | {library:.1} | {rust:.1} |");
+        for Row { runs, .. } in lengths {
+            let [low, median, high] = ratios(runs);
+            print!(" {median:.2} ({low:.2} to {high:.2}) |");
+        }
+        println!();
+    }
+}
+
+/// The quartiles of the library's time over Rust's, round by round.
+fn ratios(runs: &[Vec<Round>]) -> [f64; 3] {
+    let rounds = runs.iter().flatten();
+    quartiles(rounds.map(|round| round.library / round.rust))
 }
 
 /// The least of the runs' medians.

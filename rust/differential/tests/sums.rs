@@ -21,11 +21,11 @@ fn check(bytes: &[u8]) {
 #[test]
 fn all_short_lengths() {
     let mut random = Random::new(1);
-    let fills = [vec![0xFF; 320], random.bytes(320), random.bytes(320)];
+    let fills = [vec![0xFF; 600], random.bytes(600), random.bytes(600)];
     let mut compared = 0;
     for fill in &fills {
         for start in 0..8 {
-            for length in 0..=300 {
+            for length in 0..=580 {
                 check(&fill[start..start + length]);
                 compared += 1;
             }
@@ -34,11 +34,16 @@ fn all_short_lengths() {
     report("sums, all short lengths", compared);
 }
 
-/// One byte alone, so that its weight in the sum shows.
+/// One byte alone, so that its weight in the sum shows: in every place of what is summed byte by byte
+/// or word by word, and of what is summed in quarters, which are of 128 bytes and more.
 #[test]
 fn one_byte_among_zeros() {
     let mut compared = 0;
-    for length in 1..=40 {
+    for length in (1..=40)
+        .chain(125..=131)
+        .chain(253..=259)
+        .chain([515, 1024, 4098])
+    {
         for at in 0..length {
             for byte in [1, 0x7F, 0x80, 0xFF] {
                 let mut bytes = vec![0; length];
@@ -57,7 +62,7 @@ fn long() {
     let around = [4095, 4096, 4097, 65_535, 65_536, 65_537];
     let count = cases(500);
     for _ in 0..count {
-        let length = random.pick_or_within(&around, 301..=70_000);
+        let length = random.pick_or_within(&around, 581..=70_000);
         check(&random.bytes(length));
     }
     report("sums, long", count);

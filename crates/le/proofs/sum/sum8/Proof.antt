@@ -1,44 +1,43 @@
--- `le::sum::sum8` meets its contract. The loop's invariant: the sum so far and the sum of the rest are the sum of all, modulo 2^8.
+-- `le::sum::sum8` meets its contract: the whole blocks and the rest, each summed for itself.
 -- Assumes nothing.
-use Prim.Native.Nat.{_+_, _-_, _%_, _≤_, _<_}
-use mathlib.Core.Path.{_≡_}
+use Prim.Native.Nat.{_*_, _/_}
+use mathlib.Core.Path.{_∙_, ap}
+use native.Mathlib.Omega.{arith}
 use lib.Dec.{lit<}
-use lib.ListN.{length, drop}
-use Rattle.le.specs.Sum.{sum, totalOf}
-use Rattle.le.proofs.Sums.{turn, passed}
-use Rattle.le.proofs.Words.{byte-at}
+use lib.ListN.{length, length-take}
+use Rattle.le.specs.Sum.{sum}
+use Rattle.le.proofs.Parts.{rest}
+use Rattle.le.proofs.Sums.{sum-cut}
 use borrow.Author.Needs.{needs}
 use Rattle.le.proofs.sum.sum8.Statement.{statement}
 use Rattle.le.proofs.sum.sum8.Tie as tie
 
-abbrev Inv-loop : tie.InvT-loop
-Inv-loop s sum₀ at₀ sum at = (at ≤ length s) × (sum < 256) × ((sum + totalOf 1 (drop at s)) % 256 ≡ totalOf 1 s % 256)
+slice-aggregate-quarters8 : tie.Need-slice-aggregate-quarters8
+slice-aggregate-quarters8 c = simp length-take (omega arith)
 
-abbrev μ-loop : tie.MeasureT-loop
-μ-loop s sum₀ at₀ sum at = length s - at
+quarters8-requires : tie.Need-quarters8-requires
+quarters8-requires c κs = simp length-take (omega arith)
 
-loop-again : tie.Need-loop-again Inv-loop μ-loop
-loop-again c =
-    let at-loop = c .before .before .before in
-    let s = at-loop .before .before .args .s .now in
-    let at = at-loop .loop .at in
-    (search needs, search needs, turn 1 at (at-loop .loop .sum) _ _ s (lit< tt) (at-loop .loop .inv .2) (rw (byte-at s at) (c .wrapping-add-u8 .ensures)))
-
-returns : tie.Need-returns Inv-loop μ-loop
-returns c =
-    let end = c .before .loop in
-    passed 1 (end .at) (end .sum) (c .before .before .before .args .s .now) (search needs) (search needs) (end .inv .2)
+returns-2 : tie.Need-returns-2
+returns-2 c =
+    let at-rest = c .before in
+    let at-blocks = at-rest .before .before in
+    let s = at-blocks .before .before .before .before .args .s .now in
+    let whole = length s / 128 * 128 in
+    sum-cut 1 whole whole _ _ _ s (lit< tt) (omega arith) (omega arith) (at-blocks .quarters8 .ensures) (at-rest .serial82 .ensures ∙ ap (sum 1) (rest s whole)) (c .wrapping-add-u8 .ensures)
 
 pub sum8-spec : {M : Type 1} → statement M
 sum8-spec =
     tie.close
     (tie.spec
-    Inv-loop
-    μ-loop
-    (λ c. search needs)
-    (λ c. search needs)
     (λ c κs. search needs)
     (λ c. search needs)
     (λ c. search needs)
-    loop-again
-    returns)
+    slice-aggregate-quarters8
+    quarters8-requires
+    (λ c. search needs)
+    (λ c. search needs)
+    (λ c. search needs)
+    (λ c κs. search needs)
+    (λ c κs. search needs)
+    returns-2)
