@@ -1,8 +1,9 @@
 // Sums of a whole slice, by wrapping addition: a carry out of the top is dropped.
 //
-// What is long is cut into four quarters, and each turn of the loop adds a word of each. The order makes no difference
-// to the sum, but to the time: a turn that adds one word is compiled to a loop of 32 bytes, which takes twice as long
-// where it happens to cross the end of a cache line; four words make one of 128 bytes (docs/changes/Q-03.md).
+// What is long is cut into four quarters, and each turn of the loop adds a byte or word of each: the order makes no
+// difference to the sum. Of a loop over single bytes or words the compiler makes one that adds 32 bytes a turn, and that
+// takes twice as long where its code happens to cross the end of a cache line. The loop over quarters adds 128 bytes a
+// turn, and does not depend on its place (docs/changes/Q-03.md).
 use crate::word;
 ghost use mathlib.Core.Path.{_≡_};
 ghost use Prim.Native.Nat.{_%_};
@@ -43,8 +44,8 @@ fn quarters8(s: &[u8]) -> u8
     sum
 }
 
-// The bytes, added up modulo 2^8. A slice without a whole block is told apart first, as most SFI tables are short;
-// `sum32` with that test would be too large to be compiled in place.
+// The bytes, added up modulo 2^8. A slice without a whole block is told apart first, which is faster for the shortest
+// tables; `sum32` with that test would be too large to be compiled in place.
 pub fn sum8(s: &[u8]) -> u8
     ensures { λ r. ⌜ r ≡ sum 1 (now (s .entry)) ⌝ }
 {
@@ -61,10 +62,10 @@ fn serial32(s: &[u8]) -> u32
 {
     let words = s.len() / 4;
     let mut sum: u32 = 0;
-    let mut k = 0;
-    while k < words {
-        sum = std::num::wrapping_add_u32(sum, word::inner_u32(s, 4 * k));
-        k += 1;
+    let mut n = 0;
+    while n < words {
+        sum = std::num::wrapping_add_u32(sum, word::inner_u32(s, 4 * n));
+        n += 1;
     }
     std::num::wrapping_add_u32(sum, word::first_u32(&s[4 * words..]))
 }

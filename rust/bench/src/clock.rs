@@ -6,7 +6,8 @@ use std::time::Instant;
 const TURNS: u64 = 50_000_000;
 
 /// From a chain of additions, each of which waits a cycle for the one before it; eight in a turn, so
-/// that the loop adds nothing. The best of five, since nothing makes the chain faster than the clock.
+/// that the loop adds nothing. What is added stands in a register, since some processors add a
+/// constant in no time. The best of five runs: other work only slows them.
 pub fn gigahertz() -> f64 {
     let run = |_| {
         let began = Instant::now();
@@ -22,11 +23,12 @@ fn additions(turns: u64) {
         asm!(
             "2:",
             ".rept 8",
-            "add {sum}, 1",
+            "add {sum}, {one}",
             ".endr",
             "dec {left}",
             "jnz 2b",
             sum = inout(reg) 0u64 => _,
+            one = in(reg) 1u64,
             left = inout(reg) turns => _,
             options(nomem, nostack),
         );

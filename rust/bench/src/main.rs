@@ -67,9 +67,15 @@ type LogRead = fn(&[u8], &mut usize) -> u32;
 fn main() {
     let mut words = env::args().skip(1);
     match words.next().as_deref() {
-        Some("rounds") => print_all_rounds(),
+        Some("rounds") => {
+            timing::warm_up();
+            print_all_rounds();
+        }
         Some("table") => table::print(words),
-        Some("sums") => sums::print_all_rounds(),
+        Some("sums") => {
+            timing::warm_up();
+            sums::print_all_rounds();
+        }
         Some("sums-table") => table::print_sums(words),
         Some("clock") => println!("{:.2} GHz", clock::gigahertz()),
         _ => {

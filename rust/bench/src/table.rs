@@ -1,5 +1,6 @@
-//! The table of several runs.
+//! The tables of several runs.
 
+use crate::sums::OVER;
 use std::fs;
 
 struct Round {
@@ -14,8 +15,8 @@ struct Row {
 }
 
 /// Prints a Markdown table of runs, each a file that `bench rounds` wrote: the median time of a call
-/// of each side in the run that suited it best, the library's over Rust's, and, of all rounds,
-/// between which ratios the middle half lie.
+/// of each side in the run that suited it best, the library's over Rust's, and between which ratios
+/// four fifths of all rounds lie.
 pub fn print(files: impl Iterator<Item = String>) {
     println!("| what | library ns | Rust ns | ratio | spread |");
     println!("|---|---:|---:|---:|---:|");
@@ -28,17 +29,17 @@ pub fn print(files: impl Iterator<Item = String>) {
     }
 }
 
-/// Prints a Markdown table of runs, each a file that `bench sums` wrote. A row has the four lengths
-/// that differ in what is over: the median times of the first, and the ratios of each.
+/// Prints a Markdown table of runs, each a file that `bench sums` wrote. A row has the lengths that
+/// differ in what is over: the median times of the first, and the ratios of each.
 pub fn print_sums(files: impl Iterator<Item = String>) {
     println!("| what | library ns | Rust ns | ratio | +1 B | +2 B | +3 B |");
     println!("|---|---:|---:|---|---|---|---|");
-    for lengths in rows(files).chunks(4) {
+    for lengths in rows(files).chunks(OVER) {
         let Row { what, runs } = &lengths[0];
-        let what = what.trim_end_matches(", +0");
+        let what = what.strip_suffix(", +0").expect("the length as it is");
         let rounds = || runs.iter().flatten();
-        let [_, library, _] = quartiles(rounds().map(|round| round.library));
-        let [_, rust, _] = quartiles(rounds().map(|round| round.rust));
+        let [_, library, _] = spread(rounds().map(|round| round.library));
+        let [_, rust, _] = spread(rounds().map(|round| round.rust));
         print!("| {what} | {library:.1} | {rust:.1} |");
         for Row { runs, .. } in lengths {
             let [low, median, high] = ratios(runs);
@@ -48,16 +49,16 @@ pub fn print_sums(files: impl Iterator<Item = String>) {
     }
 }
 
-/// The quartiles of the library's time over Rust's, round by round.
+/// The spread of the library's time over Rust's, round by round.
 fn ratios(runs: &[Vec<Round>]) -> [f64; 3] {
     let rounds = runs.iter().flatten();
-    quartiles(rounds.map(|round| round.library / round.rust))
+    spread(rounds.map(|round| round.library / round.rust))
 }
 
 /// The least of the runs' medians.
 fn best(runs: &[Vec<Round>], time: impl Fn(&Round) -> f64) -> f64 {
     let median = |run: &Vec<Round>| {
-        let [_, median, _] = quartiles(run.iter().map(&time));
+        let [_, median, _] = spread(run.iter().map(&time));
         median
     };
     runs.iter().map(median).fold(f64::INFINITY, f64::min)
@@ -69,7 +70,7 @@ fn rows(files: impl Iterator<Item = String>) -> Vec<Row> {
     for (run, file) in files.enumerate() {
         let text = fs::read_to_string(&file).expect("the rounds can be read");
         for line in text.lines() {
-            let (what, round) = parse(line).expect("a line of `bench rounds`");
+            let (what, round) = parse(line).expect("a line of rounds");
             let row = row_of(&mut rows, what);
             row.runs.resize_with(run + 1, Vec::new);
             row.runs[run].push(round);
@@ -100,9 +101,10 @@ fn parse(line: &str) -> Option<(&str, Round)> {
     Some((what, round))
 }
 
-/// What a quarter, half and three quarters of the values are below.
-fn quartiles(values: impl Iterator<Item = f64>) -> [f64; 3] {
+/// What a tenth, half and nine tenths of the values are below: so one layout of four shows, but not
+/// a few rounds in which the machine did something else.
+fn spread(values: impl Iterator<Item = f64>) -> [f64; 3] {
     let mut values: Vec<f64> = values.collect();
     values.sort_by(f64::total_cmp);
-    [1, 2, 3].map(|quarter| values[(values.len() - 1) * quarter / 4])
+    [1, 5, 9].map(|tenths| values[(values.len() - 1) * tenths / 10])
 }

@@ -6,6 +6,15 @@ use std::time::{Duration, Instant};
 
 const ROUNDS: usize = 15;
 const BATCH: Duration = Duration::from_millis(1);
+const WARM_UP: Duration = Duration::from_millis(200);
+
+/// Keeps the processor busy until its clock has settled, so that the first row is timed as the others.
+pub fn warm_up() {
+    let began = Instant::now();
+    while began.elapsed() < WARM_UP {
+        black_box(began);
+    }
+}
 
 /// Prints a line for each round: what is timed, and the nanoseconds of a call of each, parted by
 /// tabs. In each round both are timed, in turn the one and the other first, so that what slows the

@@ -34,8 +34,8 @@ fn all_short_lengths() {
     report("sums, all short lengths", compared);
 }
 
-/// One byte alone, so that its weight in the sum shows: in every place of what is summed byte by byte
-/// or word by word, and of what is summed in quarters, which are of 128 bytes and more.
+/// One byte alone, so that its weight in the sum shows: at every place of slices that are too short to
+/// be cut into quarters, which have 32 bytes and more, and of slices that are cut.
 #[test]
 fn one_byte_among_zeros() {
     let mut compared = 0;

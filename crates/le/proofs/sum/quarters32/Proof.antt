@@ -1,16 +1,16 @@
--- `le::sum::quarters32` meets its contract. The loop's invariant: the sum so far and what the quarters have left are what they had, modulo 2^32.
+-- `le::sum::quarters32` meets its contract. The loop's invariant: the sum so far and what remains of the quarters are all of them, modulo 2^32.
 -- Assumes nothing.
 use Prim.Native.Nat.{_+_, _-_, _/_, _%_, _^_, _≤_, _<_}
 use mathlib.Core.Path.{_≡_}
 use lib.Dec.{lit<}
 use lib.ListN.{length}
-use Rattle.le.proofs.Summing.{quartersLeft, quarters-turn, quarters-passed}
+use Rattle.le.proofs.Summing.{quartersRemaining, quarters-turn, quarters-passed}
 use borrow.Author.Needs.{needs}
 use Rattle.le.proofs.sum.quarters32.Statement.{statement}
 use Rattle.le.proofs.sum.quarters32.Tie as tie
 
 abbrev Inv-loop : tie.InvT-loop
-Inv-loop s quarter sum₀ i₀ sum i = (i ≤ quarter) × (sum < 2 ^ 32) × ((sum + quartersLeft 4 quarter i s) % 2 ^ 32 ≡ quartersLeft 4 quarter 0 s % 2 ^ 32)
+Inv-loop s quarter sum₀ i₀ sum i = (i ≤ quarter) × (sum < 2 ^ 32) × ((sum + quartersRemaining 4 quarter i s) % 2 ^ 32 ≡ quartersRemaining 4 quarter 0 s % 2 ^ 32)
 
 abbrev μ-loop : tie.MeasureT-loop
 μ-loop s quarter sum₀ i₀ sum i = quarter - i

@@ -1,16 +1,16 @@
--- `le::sum::quarters8` meets its contract. The loop's invariant: the sum so far and what the quarters have left are what they had, modulo 2^8.
+-- `le::sum::quarters8` meets its contract. The loop's invariant: the sum so far and what remains of the quarters are all of them, modulo 2^8.
 -- Assumes nothing.
 use Prim.Native.Nat.{_+_, _*_, _-_, _/_, _%_, _≤_, _<_}
 use mathlib.Core.Path.{_≡_}
 use lib.Dec.{lit<}
 use lib.ListN.{length}
-use Rattle.le.proofs.Summing.{word-byte, quartersLeft, quarters-turn, quarters-passed}
+use Rattle.le.proofs.Summing.{word-byte, quartersRemaining, quarters-turn, quarters-passed}
 use borrow.Author.Needs.{needs}
 use Rattle.le.proofs.sum.quarters8.Statement.{statement}
 use Rattle.le.proofs.sum.quarters8.Tie as tie
 
 abbrev Inv-loop : tie.InvT-loop
-Inv-loop s quarter sum₀ i₀ sum i = (i ≤ quarter) × (sum < 256) × ((sum + quartersLeft 1 quarter i s) % 256 ≡ quartersLeft 1 quarter 0 s % 256)
+Inv-loop s quarter sum₀ i₀ sum i = (i ≤ quarter) × (sum < 256) × ((sum + quartersRemaining 1 quarter i s) % 256 ≡ quartersRemaining 1 quarter 0 s % 256)
 
 abbrev μ-loop : tie.MeasureT-loop
 μ-loop s quarter sum₀ i₀ sum i = quarter - i

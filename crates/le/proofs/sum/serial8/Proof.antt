@@ -1,17 +1,17 @@
--- `le::sum::serial8` meets its contract. The loop's invariant: the sum so far and what is left are the sum of all, modulo 2^8.
+-- `le::sum::serial8` meets its contract. The loop's invariant: the sum so far and what remains are the sum of all, modulo 2^8.
 -- Assumes nothing.
 use Prim.Native.Nat.{_+_, _-_, _%_, _≤_, _<_}
 use mathlib.Core.Path.{_≡_}
 use lib.Dec.{lit<}
 use lib.ListN.{length}
 use Rattle.le.specs.Sum.{totalOf}
-use Rattle.le.proofs.Summing.{word-byte, left, turn, passed}
+use Rattle.le.proofs.Summing.{word-byte, remaining, turn, passed}
 use borrow.Author.Needs.{needs}
 use Rattle.le.proofs.sum.serial8.Statement.{statement}
 use Rattle.le.proofs.sum.serial8.Tie as tie
 
 abbrev Inv-loop : tie.InvT-loop
-Inv-loop s sum₀ at₀ sum at = (at ≤ length s) × (sum < 256) × ((sum + left 1 at s) % 256 ≡ totalOf 1 s % 256)
+Inv-loop s sum₀ at₀ sum at = (at ≤ length s) × (sum < 256) × ((sum + remaining 1 at s) % 256 ≡ totalOf 1 s % 256)
 
 abbrev μ-loop : tie.MeasureT-loop
 μ-loop s sum₀ at₀ sum at = length s - at
