@@ -43,21 +43,32 @@ enum {
 
 /* Places of the words that hs_frame_parse hands out, in the frame's order. */
 enum {
-    HS_HEADER_INDEX = 0,
-    HS_HEADER_ID = 1,
-    HS_HEADER_SENDER = 2,
-    HS_HEADER_RECEIVER = 3,
-    HS_HEADER_STATUS = 4, /* Output Size or Returned Status */
-    HS_HEADER_TOTAL = 5,  /* Data Total Size */
-    HS_HEADER_WORDS = 6,
+    HS_HEADER_SEQUENCE = 0, /* byte 1, Reserved in T/GCC 3007-2025: the message's number */
+    HS_HEADER_INDEX = 1,
+    HS_HEADER_ID = 2, /* Message ID */
+    HS_HEADER_SENDER = 3,
+    HS_HEADER_RECEIVER = 4,
+    HS_HEADER_STATUS = 5, /* Output Size or Returned Status */
+    HS_HEADER_TOTAL = 6,  /* Data Total Size */
+    HS_HEADER_WORDS = 7,
 };
 
-/* How many numbers a state of the reassembly has, a message carried words, and a ring
- * positions; how many numbers are handed out of a table, a root table and a table's
- * body; and how many slots a root table has at most. */
+/* Places of the carried words, which every frame of a message repeats, as
+ * hs_reassembly_step hands them out. */
 enum {
-    HS_STATE_NUMBERS = 7,
-    HS_WORDS = 4,
+    HS_WORD_SEQUENCE = 0,
+    HS_WORD_ID = 1,
+    HS_WORD_SENDER = 2,
+    HS_WORD_STATUS = 3,
+    HS_WORD_TOTAL = 4, /* the message's length */
+    HS_WORDS = 5,
+};
+
+/* How many numbers a state of the reassembly has, and a ring positions; how many numbers
+ * are handed out of a table, a root table and a table's body; and how many slots a root
+ * table has at most. */
+enum {
+    HS_STATE_NUMBERS = 8,
     HS_POSITIONS = 2,
     HS_TABLE_NUMBERS = 2,
     HS_ROOT_NUMBERS = 3,
@@ -161,7 +172,7 @@ uint8_t hs_sum8(const uint8_t *s, size_t s_len);
  * a short last word is filled with zeros at the high end. Changes nothing. */
 uint32_t hs_sum32(const uint8_t *s, size_t s_len);
 
-/* Reads the header of a frame for receiver us. HS_OK: header holds its six words.
+/* Reads the header of a frame for receiver us. HS_OK: header holds its seven words.
  * Refusals 1, 2, 3, 4: header is unchanged. The data is what follows byte 23. */
 uint32_t hs_frame_parse(const uint8_t *frame, size_t frame_len, uint32_t us,
                         uint32_t header[HS_HEADER_WORDS]);
@@ -171,26 +182,27 @@ uint32_t hs_frame_parse(const uint8_t *frame, size_t frame_len, uint32_t us,
 uint32_t hs_frame_count(size_t length, size_t piece_size, size_t *frames);
 
 /* Writes the frame index, counted from 0 and of any value, of a message whose
- * pieces all have piece_size bytes, but for the last, which may be shorter. HS_OK: the
- * frame is the first *frame_len bytes of out, and out is unchanged behind them.
- * Refusals 10, 12, 13, 14: out and *frame_len are unchanged. */
-uint32_t hs_frame_write(uint32_t id, uint32_t sender, uint32_t status,
+ * pieces all have piece_size bytes, but for the last, which may be shorter. sequence is
+ * the message's number, and any will do. HS_OK: the frame is the first *frame_len bytes
+ * of out, and out is unchanged behind them. Refusals 10, 12, 13, 14: out and *frame_len
+ * are unchanged. */
+uint32_t hs_frame_write(uint8_t sequence, uint32_t id, uint32_t sender, uint32_t status,
                         uint32_t receiver, const uint8_t *message,
                         size_t message_len, size_t piece_size, size_t index,
                         uint8_t *out, size_t out_len, size_t *frame_len);
 
 /* Takes one frame for receiver us; its message grows in buffer. HS_DELIVERED: words
- * holds the message's Message ID, Sender ID, Output Size or Returned Status, and Data
- * Total Size, and the message is as many bytes at the start of buffer. HS_MORE: words
- * is unchanged. Both change only those bytes of buffer that the frame's data fills.
+ * holds the message's five carried words, the last its Data Total Size, and the message
+ * is as many bytes at the start of buffer. HS_MORE: words is unchanged. Both change only those bytes of buffer that the frame's data fills.
  * Refusals 11, 1, 2, 3, 4, 5, 6, 7, 10, 8, 9: words and buffer are unchanged.
  *
- * state[0] is 0: fresh, and the other six don't count, so zeroed memory is fresh.
- * state[0] is 1: open, with the four words as above, the next Index, and the number of
- * bytes filled. It is consistent if each word is below 2^32, 1 <= next <= filled < Data
- * Total Size, and that is at most HS_MESSAGE_MAX and buffer_len. Any other state gets
- * 11. The call leaves the state for the next one: with 1 to 4 its seven numbers are
- * unchanged, else it is fresh, written as seven zeros, unless more is wanted. */
+ * state[0] is 0: fresh, and the other seven don't count, so zeroed memory is fresh.
+ * state[0] is 1: open, with the five words as above, the next Index, and the number of
+ * bytes filled. It is consistent if the first word is below 2^8 and the others below
+ * 2^32, 1 <= next <= filled < Data Total Size, and that is at most HS_MESSAGE_MAX and
+ * buffer_len. Any other state gets 11. The call leaves the state for the next one: with
+ * 1 to 4 its eight numbers are unchanged, else it is fresh, written as eight zeros,
+ * unless more is wanted. */
 uint32_t hs_reassembly_step(uint64_t state[HS_STATE_NUMBERS], const uint8_t *frame,
                             size_t frame_len, uint32_t us, uint8_t *buffer,
                             size_t buffer_len, uint32_t words[HS_WORDS]);

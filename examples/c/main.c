@@ -38,23 +38,23 @@ static void must(uint32_t answer) {
 
 /* The deck computer writes the frames of a message, and the head takes all but the lost one. A
  * refusal is no reason to stop: nothing is handed up, and the state is ready for what follows. */
-static void transmit(uint32_t id, const uint8_t *message, size_t length, size_t lost) {
+static void transmit(uint8_t sequence, uint32_t id, const uint8_t *message, size_t length, size_t lost) {
     size_t frames, frame_len;
     must(hs_frame_count(length, PIECE, &frames));
     printf("message %" PRIu32 ", %zu bytes in %zu frames\n", id, length, frames);
     for (size_t index = 0; index < frames; index++) {
         uint8_t frame[HS_FRAME_MAX];
-        must(hs_frame_write(id, DECK, 0, HEAD, message, length, PIECE, index, frame, sizeof frame,
-                            &frame_len));
+        must(hs_frame_write(sequence, id, DECK, 0, HEAD, message, length, PIECE, index, frame,
+                            sizeof frame, &frame_len));
         if (index == lost) continue;
-        uint32_t words[HS_WORDS]; /* Message ID, Sender ID, Status, Data Total Size */
+        uint32_t words[HS_WORDS];
         uint32_t answer =
             hs_reassembly_step(state, frame, frame_len, HEAD, buffer, sizeof buffer, words);
         printf("  index %zu, %zu bytes: ", index, frame_len);
         if (answer == HS_MORE)
             printf("more wanted\n");
         else if (answer == HS_DELIVERED)
-            printf("delivered, %.*s\n", (int)words[3], (const char *)buffer);
+            printf("delivered, %.*s\n", (int)words[HS_WORD_TOTAL], (const char *)buffer);
         else
             printf("refused with %" PRIu32 "\n", answer);
     }
@@ -68,8 +68,8 @@ int main(void) {
     const uint8_t *speed = memory + body[1];
     printf("slot %zu, %s: %.*s\n", body[0], name, (int)body[2], (const char *)speed);
 
-    transmit(1, speed, body[2], SIZE_MAX); /* none is lost */
-    transmit(2, speed, body[2], 1);
+    transmit(0, 1, speed, body[2], SIZE_MAX); /* none is lost */
+    transmit(1, 2, speed, body[2], 1);
 
     uint8_t ring[64], data[HS_NOTICE_MAX];
     size_t data_len, positions[HS_POSITIONS] = {0, 0}; /* equal positions: the ring is empty */

@@ -114,9 +114,9 @@ unfolding holds
 allHold [] = true
 allHold (c ∷ cs) = holds c && allHold cs
 
--- Message ID 0x01020304, sender 10, receiver 11, word 0xFFFFFFFF; data 01 to 05
+-- Message ID 0x01020304, sender 10, receiver 11, word 0xFFFFFFFF; data 01 to 05. "In 01's cases byte 1 is 0."
 pub envelope : Envelope
-envelope = record { id = 0x01020304; sender = 10; status = 0xFFFFFFFF; receiver = 11 }
+envelope = record { sequence = 0; id = 0x01020304; sender = 10; status = 0xFFFFFFFF; receiver = 11 }
 
 pub message : List ℕ
 message = 1 ∷ 2 ∷ 3 ∷ 4 ∷ 5 ∷ []

@@ -18,6 +18,7 @@ const PIECE: usize = 16;
 fn print_header(h: Header) {
     let words = h.words;
     let said = [
+        words.sequence as u64,
         h.index as u64,
         words.id as u64,
         words.sender as u64,
@@ -25,7 +26,7 @@ fn print_header(h: Header) {
         words.total as u64,
     ];
     report::pattern(
-        b"  index %, message %, sender %, receiver %, total %",
+        b"  sequence %, index %, message %, sender %, receiver %, total %",
         &said,
     );
 }
@@ -93,9 +94,10 @@ fn send_frames(
     now
 }
 
-fn send(state: State, id: u32, message: &[u8], buffer: &mut [u8]) -> State {
+fn send(state: State, sequence: u8, id: u32, message: &[u8], buffer: &mut [u8]) -> State {
     report::pattern(b"message %, % bytes\n", &[id as u64, message.len() as u64]);
     let e = Envelope {
+        sequence,
         id,
         sender: HEAD,
         status: 0xFFFF_FFFF,
@@ -110,7 +112,7 @@ fn send(state: State, id: u32, message: &[u8], buffer: &mut [u8]) -> State {
     }
 }
 
-fn send_file(state: State, id: u32, path: &[u8], buffer: &mut [u8]) -> State {
+fn send_file(state: State, sequence: u8, id: u32, path: &[u8], buffer: &mut [u8]) -> State {
     let fd = os::open_read(path);
     if fd < 0 {
         os::fail(path);
@@ -119,12 +121,12 @@ fn send_file(state: State, id: u32, path: &[u8], buffer: &mut [u8]) -> State {
     let mut message = io::large_buffer();
     let n = io::read_full(fd, &mut message);
     libc::close(fd);
-    send(state, id, &message[..n], buffer)
+    send(state, sequence, id, &message[..n], buffer)
 }
 
 fn main() {
     let mut buffer = [0u8; Header::MESSAGE_MAX];
-    let first = send_file(State::Fresh, 1, b"sound-speed", &mut buffer);
-    let second = send_file(first, 2, b"ping", &mut buffer);
-    send_file(second, 3, b"depth", &mut buffer);
+    let first = send_file(State::Fresh, 0, 1, b"sound-speed", &mut buffer);
+    let second = send_file(first, 1, 2, b"ping", &mut buffer);
+    send_file(second, 2, 3, b"depth", &mut buffer);
 }

@@ -35,6 +35,7 @@ module _ (e : Envelope) (fits : Fits e) (total index : ℕ) (total-fits : total 
         receiver = word-bytes 4 (e .receiver) (drop 16 f) (fits .receiver) i;
         words =
             record {
+              sequence = word-bytes 1 (e .sequence) (drop 2 f) (fits .sequence) i;
               id = word-bytes 4 (e .id) (drop 8 f) (fits .id) i;
               sender = word-bytes 4 (e .sender) (drop 12 f) (fits .sender) i;
               status = word-bytes 4 (e .status) (drop 20 f) (fits .status) i;

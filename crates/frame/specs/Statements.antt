@@ -14,8 +14,9 @@ use Rattle.frame.specs.declared.write.Reason.the-variants.{NoFrame}
 use Rattle.frame.specs.declared.write.Counted.the-variants.{Frames}
 use Rattle.frame.specs.declared.write.Written.the-variants.{Frame, Refused as Unwritten}
 
--- the words are of 32 bits, as each `u32` is
+-- the sequence number is a byte and the other words are of 32 bits, as each `u8` and each `u32` is
 pub record Fits (e : Envelope) : Type 0 where
+  pub sequence : e .sequence < 2 ^ 8
   pub id : e .id < 2 ^ 32
   pub sender : e .sender < 2 ^ 32
   pub status : e .status < 2 ^ 32

@@ -5,8 +5,10 @@ pub mod write;
 ghost use mathlib.Core.Path.{_≡_};
 ghost use Rattle.frame.specs.Layout.{headerOf, headerFor, headerBytes};
 
-// What a message is sent under: the first three carried words, and the Receiver ID.
+// What a message is sent under: the carried words but for its length, and the Receiver ID.
 pub struct Envelope {
+    // The message's number, in the byte that table 11 calls Reserved.
+    pub sequence: u8,
     // Message ID.
     pub id: u32,
     // Sender ID.
@@ -17,8 +19,9 @@ pub struct Envelope {
     pub receiver: u32,
 }
 
-// The four carried words, which every frame of a message repeats.
+// The five carried words, which every frame of a message repeats.
 pub struct Words {
+    pub sequence: u8,
     pub id: u32,
     pub sender: u32,
     pub status: u32,
@@ -51,6 +54,7 @@ impl Header {
             index,
             receiver: e.receiver,
             words: Words {
+                sequence: e.sequence,
                 id: e.id,
                 sender: e.sender,
                 status: e.status,
@@ -67,6 +71,7 @@ impl Header {
             index: le::word::u16_at(frame, 2),
             receiver: le::word::u32_at(frame, 12),
             words: Words {
+                sequence: le::word::u8_at(frame, 1),
                 id: le::word::u32_at(frame, 4),
                 sender: le::word::u32_at(frame, 8),
                 status: le::word::u32_at(frame, 16),
@@ -75,11 +80,12 @@ impl Header {
         }
     }
 
-    // The header as it is written; Reserved is 0.
+    // The header as it is written.
     pub fn bytes(self) -> [u8; 24]
         ensures { λ r. ⌜ r ≡ headerBytes self ⌝ }
     {
         let words = self.words;
+        let n = le::word::u8_bytes(words.sequence);
         let i = le::word::u16_bytes(self.index);
         let m = le::word::u32_bytes(words.id);
         let s = le::word::u32_bytes(words.sender);
@@ -88,7 +94,7 @@ impl Header {
         let t = le::word::u32_bytes(words.total);
         [
             Self::TYPE_VERSION,
-            0,
+            n[0],
             i[0],
             i[1],
             m[0],

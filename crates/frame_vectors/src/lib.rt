@@ -10,8 +10,9 @@ const RECEIVER: u32 = 11;
 // The size of the pieces that most messages here are cut in.
 const PIECE: usize = 2;
 
-fn envelope() -> Envelope {
+fn envelope(sequence: u8) -> Envelope {
     Envelope {
+        sequence,
         id: 0x0102_0304,
         sender: 10,
         status: 0xFFFF_FFFF,
@@ -49,13 +50,23 @@ fn write(message: &[u8], piece: usize, index: usize, out: &mut [u8]) {
         b"\n  write, % bytes in pieces of %, index %, output of %",
         &said,
     );
-    let written = frame::write::write(envelope(), message, piece, index, out);
+    let written = frame::write::write(envelope(0), message, piece, index, out);
     say_written(written, out);
+}
+
+// An empty message with that sequence number.
+fn write_numbered(sequence: u8, out: &mut [u8]) {
+    report::pattern(b"\n  write, 0 bytes, sequence %", &[sequence as u64]);
+    say_written(
+        frame::write::write(envelope(sequence), &[], PIECE, 0, out),
+        out,
+    );
 }
 
 fn say_header(h: Header) {
     let words = h.words;
     let said = [
+        words.sequence as u64,
         h.index as u64,
         words.id as u64,
         words.sender as u64,
@@ -64,21 +75,22 @@ fn say_header(h: Header) {
         words.total as u64,
     ];
     report::pattern(
-        b": index %, message #, sender %, receiver %, word #, total %, data",
+        b": sequence %, index %, message #, sender %, receiver %, word #, total %, data",
         &said,
     );
 }
 
-// The frame with Index 1, with that byte 0, and zeros behind it.
-fn second(byte_0: u8) -> [u8; 257] {
+// The frame with Index 1, with those bytes 0 and 1, and zeros behind it.
+fn second(byte_0: u8, byte_1: u8) -> [u8; 257] {
     let mut out = [0u8; 257];
-    frame::write::write(envelope(), &[1, 2, 3, 4, 5], PIECE, 1, &mut out);
+    frame::write::write(envelope(0), &[1, 2, 3, 4, 5], PIECE, 1, &mut out);
     out[0] = byte_0;
+    out[1] = byte_1;
     out
 }
 
-fn read(frame: &[u8]) {
-    report::start_line(b"read, index 1, by receiver 11");
+fn read(what: &[u8], frame: &[u8]) {
+    report::start_line(what);
     match frame::read::parse(frame, RECEIVER) {
         Parsed::Header(h) => {
             say_header(h);
@@ -90,7 +102,7 @@ fn read(frame: &[u8]) {
 
 // The refusal of such a frame, of that length; 0 if there is none.
 fn read_refusal(byte_0: u8, length: usize, us: u32) -> u64 {
-    match frame::read::parse(le::head(&second(byte_0), length), us) {
+    match frame::read::parse(le::head(&second(byte_0, 0), length), us) {
         Parsed::Header(_) => 0,
         Parsed::Refused(reason) => reason.number() as u64,
     }
@@ -103,6 +115,7 @@ fn run_writer(five: &[u8], bytes: &[u8], out: &mut [u8]) {
     write(five, PIECE, 2, out);
     count(0, PIECE);
     write(&[], PIECE, 0, &mut [0u8; 24]);
+    write_numbered(255, out);
     count(4096, Header::PIECE_MAX);
     let longest = le::head(bytes, Header::MESSAGE_MAX);
     write(longest, Header::PIECE_MAX, 17, out);
@@ -119,7 +132,11 @@ fn run_refusals(five: &[u8], bytes: &[u8], out: &mut [u8]) {
 
 fn run_reader() {
     let right = Header::TYPE_VERSION;
-    read(le::head(&second(right), 26));
+    read(
+        b"read, index 1, by receiver 11",
+        le::head(&second(right, 0), 26),
+    );
+    read(b"read, byte 1 is 0xA5", le::head(&second(right, 0xA5), 26));
     let said = [
         read_refusal(right, 23, RECEIVER),
         read_refusal(right, 257, RECEIVER),

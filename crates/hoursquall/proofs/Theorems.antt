@@ -1,16 +1,16 @@
 -- The theorems of `specs/Statements.antt` on the numbers that C keeps between calls.
 --     state-crosses      a state survives the way through the block
 --     positions-cross    so do a ring's positions
---     state-wide         the state that a block is carries words of 32 bits
---     read-wide          so does the header of a frame that is read
---     step-crosses       so does the state after a step, and what C sees of the step is what it hands up
+--     state-fits         the words of the state that a block is are as wide as a frame has them
+--     read-fits          so are those of a frame that is read
+--     step-crosses       so are those of the state after a step, and what C sees of the step is what it hands up
 --     refusal-leaves-lent    what a refusal leaves of what was lent
 --     block-crosses      the block that a call leaves is the state after it
 --     run-crosses        so a run over blocks is a run over states
 --     demand-3-exported, exactly-these-exported   and demand 3 holds of it
 --     ring-is-queue-exported   and so is the ring over blocks of positions the queue
 -- Assumes nothing.
-use Prim.Native.Nat.{ℕ, _+_, _^_, _≤_, _<_}
+use Prim.Native.Nat.{ℕ, suc, _+_, _^_, _≤_, _<_}
 use mathlib.Core.Bool.{Bool, true, false, cond, not, _&&_}
 use mathlib.Core.Path.{_≡_, refl, sym, subst, ap, ap₂, _∙_}
 use mathlib.Core.List.{List, [], _∷_}
@@ -22,7 +22,7 @@ use lib.Seq.{getD-drop}
 use Rattle.le.specs.Word.{word, AreBytes}
 use Rattle.le.proofs.Words.{word-below}
 use Rattle.le.proofs.Tests.{both, either}
-use Rattle.frame.specs.Layout.{headerSize, frameMax, typeVersion, wordsFrom, headerOf}
+use Rattle.frame.specs.Layout.{headerSize, frameMax, typeVersion, wordsAt, headerOf}
 use Rattle.frame.specs.Reading.{parsed}
 use Rattle.frame.specs.declared.Header.{Header}
 use Rattle.frame.specs.declared.Words.{Words}
@@ -50,20 +50,21 @@ use Rattle.notice.specs.declared.Taken.{Taken}
 use Rattle.notice.specs.declared.Taken.the-variants.{Notice as Got, Refused as NotTaken}
 use Rattle.notice.proofs.Theorem.{ring-is-queue}
 use Rattle.hoursquall.specs.Notice.{positionsOf, postNumber, positionsAfterPost, takeNumber, positionsAfterTake, idAfter, dataLengthAfter, Kept, RingCall, ofPost, ofTake, postIn, takeIn, toldBy, keptAfter}
-use Rattle.hoursquall.specs.Reassembly.{wordMax, stateOf, blockOf, verdictNumber, wordsAfter, isUnread, Lent, lending, stepped, answered, left}
-use Rattle.hoursquall.specs.Statements.{WideWords, Wide, StateCrosses, upInC, framesOf, lentTo, runBlocks, RunCrosses, Demand3Exported, ExactlyTheseExported, RefusalLeavesLent, PositionsCross, runRing, inNumbers, allInNumbers, operationsOf, RingIsQueueExported}
+use Rattle.hoursquall.specs.Reassembly.{byteMax, wordMax, stateOf, blockOf, verdictNumber, wordsAfter, isUnread, Lent, lending, stepped, answered, left}
+use Rattle.hoursquall.specs.Statements.{WordsFit, StateFits, StateCrosses, upInC, framesOf, lentTo, runBlocks, RunCrosses, Demand3Exported, ExactlyTheseExported, RefusalLeavesLent, PositionsCross, runRing, inNumbers, allInNumbers, operationsOf, RingIsQueueExported}
 
--- a number of 32 bits passes the block's test, and only such a one does
-within : (n : ℕ) → n < 2 ^ 32 → ltb wordMax n ≡ false
-within n h = le-ltb wordMax n (omega arith)
+-- a word that fits passes the block's test, and only such a one does
+within : (max n : ℕ) → n < suc max → ltb max n ≡ false
+within max n h = le-ltb max n (omega arith)
 
-below : (n : ℕ) → ltb wordMax n ≡ false → n < 2 ^ 32
-below n e = omega (arith, ltb-false wordMax n e)
+below : (max n : ℕ) → ltb max n ≡ false → n < suc max
+below max n e = omega (arith, ltb-false max n e)
 
 pub state-crosses : StateCrosses
 unfolding stateOf
-state-crosses Fresh wide = refl
-state-crosses (Open p) wide = rw (within _ (wide .0), within _ (wide .1 .0), within _ (wide .1 .1 .0), within _ (wide .1 .1 .1 .0))
+state-crosses Fresh fits = refl
+state-crosses (Open p) fits =
+    rw (within byteMax _ (fits .sequence), within wordMax _ (fits .id), within wordMax _ (fits .sender), within wordMax _ (fits .status), within wordMax _ (fits .total))
 
 pub positions-cross : PositionsCross
 positions-cross id n p before = (refl, refl)
@@ -74,36 +75,49 @@ unless P true p q = p
 unless P false p q = q refl
 
 -- the words of `noState`
-none-wide : WideWords (wordsFrom [])
-none-wide = (omega arith, (omega arith, (omega arith, (omega arith, tt))))
+none-fit : WordsFit (wordsAt 0 [])
+none-fit = record { sequence = omega arith; id = omega arith; sender = omega arith; status = omega arith; total = omega arith }
 
-state-wide : (block : List ℕ) → Wide (stateOf block)
+state-fits : (block : List ℕ) → StateFits (stateOf block)
 unfolding stateOf
-state-wide b =
-    either Wide (eqb (getD b 0 0) 0) tt
-    (either Wide (not (eqb (getD b 0 0) 1)) none-wide
-    (unless Wide (ltb wordMax (getD b 1 0)) none-wide (λ id.
-    unless Wide (ltb wordMax (getD b 2 0)) none-wide (λ sender.
-    unless Wide (ltb wordMax (getD b 3 0)) none-wide (λ status.
-    unless Wide (ltb wordMax (getD b 4 0)) none-wide (λ total.
-    (below _ id, (below _ sender, (below _ status, (below _ total, tt))))))))))
+state-fits b =
+    either StateFits (eqb (getD b 0 0) 0) tt
+    (either StateFits (not (eqb (getD b 0 0) 1)) none-fit
+    (unless StateFits (ltb byteMax (getD b 1 0)) none-fit (λ sequence.
+    unless StateFits (ltb wordMax (getD b 2 0)) none-fit (λ id.
+    unless StateFits (ltb wordMax (getD b 3 0)) none-fit (λ sender.
+    unless StateFits (ltb wordMax (getD b 4 0)) none-fit (λ status.
+    unless StateFits (ltb wordMax (getD b 5 0)) none-fit (λ total.
+    record {
+      sequence = below byteMax _ sequence;
+      id = below wordMax _ id;
+      sender = below wordMax _ sender;
+      status = below wordMax _ status;
+      total = below wordMax _ total;
+    })))))))
 
--- the words of a header, if one is read, are of 32 bits
-abbrev WideRead : Parsed → Type 0
-WideRead (Parsed.Header h) = WideWords (h .words)
-WideRead (Parsed.Refused reason) = Unit {0}
+-- the words of a header, if one is read, fit
+abbrev ReadFits : Parsed → Type 0
+ReadFits (Parsed.Header h) = WordsFit (h .words)
+ReadFits (Parsed.Refused reason) = Unit {0}
 
-word-wide : (f : List ℕ) → AreBytes f → (at : ℕ) → word 4 (drop at f) < 2 ^ 32
-word-wide f are at = omega (arith, word-below 4 (drop at f) (λ i. rw (getD-drop at f i 0) (are (at + i))))
+word-fits : (k : ℕ) (f : List ℕ) → AreBytes f → (at : ℕ) → word k (drop at f) < 256 ^ k
+word-fits k f are at = word-below k (drop at f) (λ i. rw (getD-drop at f i 0) (are (at + i)))
 
-read-wide : (us : ℕ) (f : List ℕ) → AreBytes f → WideRead (parsed us f)
+read-fits : (us : ℕ) (f : List ℕ) → AreBytes f → ReadFits (parsed us f)
 unfolding parsed
-read-wide us f are =
-    either WideRead (ltb (length f) headerSize) tt
-    (either WideRead (ltb frameMax (length f)) tt
-    (either WideRead (not (eqb (word 1 f) typeVersion)) tt
-    (either WideRead (not (eqb (headerOf f .receiver) us)) tt
-    (word-wide f are 4, (word-wide f are 8, (word-wide f are 16, (word-wide f are 20, tt)))))))
+read-fits us f are =
+    either ReadFits (ltb (length f) headerSize) tt
+    (either ReadFits (ltb frameMax (length f)) tt
+    (either ReadFits (not (eqb (word 1 f) typeVersion)) tt
+    (either ReadFits (not (eqb (headerOf f .receiver) us)) tt
+    (record {
+      sequence = word-fits 1 f are 1;
+      id = word-fits 4 f are 4;
+      sender = word-fits 4 f are 8;
+      status = word-fits 4 f are 16;
+      total = word-fits 4 f are 20;
+    }))))
 
 -- no refusal has the number 100
 not-100 : (reason : Reason) → eqb (numberOf reason) 100 ≡ false
@@ -119,23 +133,23 @@ not-100 TooMuchData = refl
 not-100 MessageLong = refl
 not-100 BadState = refl
 
--- a message's words come from what is open or from the frame, so they are of 32 bits
-source-wide : (us : ℕ) (f : List ℕ) → AreBytes f → (s : State) (w : Words) (i filled : ℕ) → Source us f s w i filled → Wide s → WideWords w
-source-wide us f are s w i filled (begun st h read) wide = subst WideRead read (read-wide us f are)
-source-wide us f are s w i filled (continued q) wide = wide
+-- a message's words come from what is open or from the frame, so they fit
+source-fits : (us : ℕ) (f : List ℕ) → AreBytes f → (s : State) (w : Words) (i filled : ℕ) → Source us f s w i filled → StateFits s → WordsFit w
+source-fits us f are s w i filled (begun st h read) fits = subst ReadFits read (read-fits us f are)
+source-fits us f are s w i filled (continued q) fits = fits
 
--- what is wanted of a step: the state after it carries words of 32 bits, and what C sees of it is what it hands up
+-- what is wanted of a step: the state after it carries words that fit, and what C sees of it is what it hands up
 record Crosses (before : List ℕ) (st : Stepped) : Type 0 where
-  wide : Wide (st .answer .state)
+  fits : StateFits (st .answer .state)
   seen : upInC (verdictNumber (st .answer .verdict)) (wordsAfter (st .answer .verdict) before) (st .buffer) ≡ upBy st
 
-step-crosses : (before : List ℕ) (us : ℕ) (s : State) → Wide s → (b f : List ℕ) → AreBytes f → Crosses before (stepOf us s b f)
-step-crosses before us s wide b f are = by (outcome us s (length b) f)
+step-crosses : (before : List ℕ) (us : ℕ) (s : State) → StateFits s → (b f : List ℕ) → AreBytes f → Crosses before (stepOf us s b f)
+step-crosses before us s fits b f are = by (outcome us s (length b) f)
   where
     by : Outcome us s (length b) f → Crosses before (stepOf us s b f)
-    by (refuses reason bad steps) = rw (steps b refl) (record { wide = kept Wide tt reason s wide; seen = rw (not-100 reason) })
-    by (delivers w i filled source all held steps) = rw (steps b refl) (record { wide = tt; seen = refl })
-    by (wants w i filled source room again steps) = rw (steps b refl) (record { wide = source-wide us f are s w i filled source wide; seen = refl })
+    by (refuses reason cause steps) = rw (steps b refl) (record { fits = kept StateFits tt reason s fits; seen = rw (not-100 reason) })
+    by (delivers w i filled source all held steps) = rw (steps b refl) (record { fits = tt; seen = refl })
+    by (wants w i filled source room again steps) = rw (steps b refl) (record { fits = source-fits us f are s w i filled source fits; seen = refl })
 
 -- the numbers of a frame that is not read are 1 to 4
 unread-numbers : (n : ℕ) → 1 ≤ n → n ≤ 4 → isUnread n ≡ true
@@ -165,23 +179,23 @@ pub refusal-leaves-lent : RefusalLeavesLent
 refusal-leaves-lent us lent f = leaves-lent us lent f (stepped us lent f .answer .verdict) refl .1
 
 -- the block that a call leaves is the state after it
-block-crosses : (us : ℕ) (lent : Lent) (f : List ℕ) → Wide (stepped us lent f .answer .state) → stateOf (left us lent f .block) ≡ stepped us lent f .answer .state
-block-crosses us lent f wide = go (isUnread (answered us lent f)) refl
+block-crosses : (us : ℕ) (lent : Lent) (f : List ℕ) → StateFits (stepped us lent f .answer .state) → stateOf (left us lent f .block) ≡ stepped us lent f .answer .state
+block-crosses us lent f fits = go (isUnread (answered us lent f)) refl
   where
     go : (t : Bool) → isUnread (answered us lent f) ≡ t → stateOf (cond t (lent .block) (blockOf (stepped us lent f .answer .state))) ≡ stepped us lent f .answer .state
     go true e =
         let n = answered us lent f in
         let range = both (leb 1 n) (leb n 4) e in
         sym (leaves-lent us lent f (stepped us lent f .answer .verdict) refl .0 (leb-true 1 n (range .0)) (leb-true n 4 (range .1)))
-    go false e = state-crosses (stepped us lent f .answer .state) wide
+    go false e = state-crosses (stepped us lent f .answer .state) fits
 
 pub run-crosses : RunCrosses
 unfolding runBlocks answers
 run-crosses us block b [] are = refl
 run-crosses us block b (c ∷ cs) are =
     let lent = lentTo c block b in
-    let crosses = step-crosses (c .words) us (stateOf block) (state-wide block) b (c .frame) (are .0) in
-    let kept = block-crosses us lent (c .frame) (crosses .wide) in
+    let crosses = step-crosses (c .words) us (stateOf block) (state-fits block) b (c .frame) (are .0) in
+    let kept = block-crosses us lent (c .frame) (crosses .fits) in
     ap₂ _∷_ (crosses .seen)
     (run-crosses us (left us lent (c .frame) .block) (left us lent (c .frame) .buffer) cs (are .1)
     ∙ ap (λ (s : State). run us s (left us lent (c .frame) .buffer) (framesOf cs)) kept)

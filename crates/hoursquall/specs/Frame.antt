@@ -16,10 +16,10 @@ abbrev pub parseNumber : Parsed → ℕ
 parseNumber (Header h) = 0
 parseNumber (Unread reason) = Reading.numberOf reason
 
--- the six words of a header, in the frame's order
+-- the seven words of a header, in the frame's order
 abbrev pub headerAfter : Parsed → List ℕ → List ℕ
 headerAfter (Header h) before =
-    h .index ∷ h .words .id ∷ h .words .sender ∷ h .receiver ∷ h .words .status ∷ h .words .total ∷ []
+    h .words .sequence ∷ h .index ∷ h .words .id ∷ h .words .sender ∷ h .receiver ∷ h .words .status ∷ h .words .total ∷ []
 headerAfter (Unread reason) before = before
 
 abbrev pub countNumber : Counted → ℕ
@@ -30,8 +30,8 @@ abbrev pub countAfter : Counted → ℕ → ℕ
 countAfter (Frames n) before = n
 countAfter (Uncounted reason) before = before
 
-abbrev pub envelopeOf : ℕ → ℕ → ℕ → ℕ → Envelope
-envelopeOf id sender status receiver = record { id = id; sender = sender; status = status; receiver = receiver }
+abbrev pub envelopeOf : ℕ → ℕ → ℕ → ℕ → ℕ → Envelope
+envelopeOf sequence id sender status receiver = record { sequence = sequence; id = id; sender = sender; status = status; receiver = receiver }
 
 abbrev pub writeNumber : Written → ℕ
 writeNumber (Frame n) = 0

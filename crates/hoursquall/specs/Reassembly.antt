@@ -5,7 +5,7 @@ use mathlib.Core.Bool.{Bool, cond, not, _&&_}
 use mathlib.Core.List.{List, [], _∷_, _++_}
 use lib.Dec.{eqb, ltb, leb}
 use lib.ListN.{getD, replicate}
-use Rattle.frame.specs.Layout.{wordsOf, wordsFrom}
+use Rattle.frame.specs.Layout.{wordsOf, wordsAt}
 use Rattle.reassembly.specs.declared.State.{State}
 use Rattle.reassembly.specs.declared.State.the-variants.{Fresh, Open}
 use Rattle.reassembly.specs.declared.Verdict.{Verdict}
@@ -14,32 +14,32 @@ use Rattle.reassembly.specs.Step as Step
 
 -- an open state that no buffer is consistent with
 abbrev pub noState : State
-noState = Open (record { words = wordsFrom []; next = 0; filled = 0 })
+noState = Open (record { words = wordsAt 0 []; next = 0; filled = 0 })
 
--- the largest word of 32 bits
+-- the largest byte, and the largest word of 32 bits
+abbrev pub byteMax : ℕ
+byteMax = 0xFF
+
 abbrev pub wordMax : ℕ
 wordMax = 0xFFFFFFFF
 
--- the open state that a block is: the carried words, each of 32 bits, the next Index and how many bytes are filled
+-- the open state that a block is: the carried words, the first a byte and the others of 32 bits, the next Index and how many bytes are filled
 abbrev pub openOf : List ℕ → State
 openOf b =
-    cond (ltb wordMax (getD b 1 0)) noState
+    cond (ltb byteMax (getD b 1 0)) noState
     (cond (ltb wordMax (getD b 2 0)) noState
     (cond (ltb wordMax (getD b 3 0)) noState
     (cond (ltb wordMax (getD b 4 0)) noState
-    (Open (record {
-      words = record { id = getD b 1 0; sender = getD b 2 0; status = getD b 3 0; total = getD b 4 0 };
-      next = getD b 5 0;
-      filled = getD b 6 0;
-    })))))
+    (cond (ltb wordMax (getD b 5 0)) noState
+    (Open (record { words = wordsAt 1 b; next = getD b 6 0; filled = getD b 7 0 }))))))
 
--- The state that a block of seven numbers is: 0 is fresh, whatever follows it; 1 is open. A block that is no state reads as `noState`, so that it gets 11.
+-- The state that a block of eight numbers is: 0 is fresh, whatever follows it; 1 is open. A block that is no state reads as `noState`, so that it gets 11.
 unfoldable pub stateOf : List ℕ → State
 stateOf b = cond (eqb (getD b 0 0) 0) Fresh (cond (not (eqb (getD b 0 0) 1)) noState (openOf b))
 
 -- the block that a state is written as
 abbrev pub blockOf : State → List ℕ
-blockOf Fresh = replicate 7 0
+blockOf Fresh = replicate 8 0
 blockOf (Open p) = 1 ∷ (wordsOf (p .words) ++ (p .next ∷ p .filled ∷ []))
 
 -- 0: more is wanted; 100: a message is delivered; else the number of the refusal

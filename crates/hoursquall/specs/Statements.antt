@@ -9,7 +9,7 @@ use lib.Dec.{eqb}
 use lib.ListN.{length, take, getD}
 use Rattle.le.specs.Word.{AreBytes}
 use Rattle.frame.specs.Framing.{All}
-use Rattle.frame.specs.Layout.{wordsOf, wordsFrom}
+use Rattle.frame.specs.Layout.{wordsAt}
 use Rattle.frame.specs.declared.Words.{Words}
 use Rattle.reassembly.specs.Run.{HandedUp, run, messages}
 use Rattle.reassembly.specs.Traffic.{Traffic, LegalTraffic, calls, arrived, expected}
@@ -25,24 +25,28 @@ use Rattle.notice.specs.Statements.{Capacity}
 use Rattle.hoursquall.specs.Reassembly.{stateOf, blockOf, Lent, lending, answered, left}
 use Rattle.hoursquall.specs.Notice.{positionsOf, positionsAfterPost, positionsAfterTake, Kept, RingCall, Told, ofPost, ofTake, toldBy, keptAfter}
 
--- the carried words are of 32 bits, as each `u32` is
-abbrev pub WideWords : Words → Type 0
-WideWords w = All (λ n. n < 2 ^ 32) (wordsOf w)
+-- the sequence number is a byte and the other carried words are of 32 bits, as each `u8` and each `u32` is
+pub record WordsFit (w : Words) : Type 0 where
+  pub sequence : w .sequence < 2 ^ 8
+  pub id : w .id < 2 ^ 32
+  pub sender : w .sender < 2 ^ 32
+  pub status : w .status < 2 ^ 32
+  pub total : w .total < 2 ^ 32
 
-abbrev pub Wide : State → Type 0
-Wide Fresh = Unit {0}
-Wide (Open p) = WideWords (p .words)
+abbrev pub StateFits : State → Type 0
+StateFits Fresh = Unit {0}
+StateFits (Open p) = WordsFit (p .words)
 
 -- `state-crosses`. A state that is written as a block and read again is that state: fresh or open, with the carried words, the next Index and how many
 -- bytes are filled.
 abbrev pub StateCrosses : Type 0
-StateCrosses = (s : State) → Wide s → stateOf (blockOf s) ≡ s
+StateCrosses = (s : State) → StateFits s → stateOf (blockOf s) ≡ s
 
 -- what C hands up after an answer: with 100 the carried words and the buffer's first bytes, as many as the total says, else nothing
 abbrev pub upInC : ℕ → List ℕ → List ℕ → Option HandedUp
 upInC number words buffer =
     cond (eqb number 100)
-    (some (record { words = wordsFrom words; length = wordsFrom words .total; bytes = take (wordsFrom words .total) buffer }))
+    (some (record { words = wordsAt 0 words; length = wordsAt 0 words .total; bytes = take (wordsAt 0 words .total) buffer }))
     none
 
 -- one call: its frame, and what is lent to it for the words, which the caller may lend anew each time
@@ -79,7 +83,7 @@ pub record Calling (us : ℕ) (block buffer : List ℕ) (traffic : Traffic) (cs 
   pub bytes : All AreBytes (calls us traffic)
   pub frames-are : framesOf cs ≡ calls us traffic
 
--- `demand-3-exported`. Demand 3 as C sees it: what is handed up by 100, the four words and the buffer "is exactly the messages that lost no frame, each once,
+-- `demand-3-exported`. Demand 3 as C sees it: what is handed up by 100, the five words and the buffer "is exactly the messages that lost no frame, each once,
 -- in order, with bytes and carried words as sent."
 abbrev pub Demand3Exported : Type 0
 Demand3Exported =

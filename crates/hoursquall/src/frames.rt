@@ -10,14 +10,14 @@ ghost use Rattle.hoursquall.specs.Frame.{parseNumber, headerAfter, count
 
 // Reads a frame for the receiver `us`; `header` receives its words in the frame's order.
 #[no_mangle]
-pub extern "C" fn hs_frame_parse(frame: &[u8], us: u32, header: &mut [u32; 6]) -> u32
+pub extern "C" fn hs_frame_parse(frame: &[u8], us: u32, header: &mut [u32; 7]) -> u32
     ensures { λ r. ⌜ r ≡ parseNumber (parsed us (now (frame .entry))) ⌝ }
     ensures { λ _. ⌜ now (header .exit) ≡ headerAfter (parsed us (now (frame .entry))) (now (header .entry)) ⌝ }
 {
     tell_parsed(frame::read::parse(frame, us), header)
 }
 
-fn tell_parsed(answer: Parsed, header: &mut [u32; 6]) -> u32
+fn tell_parsed(answer: Parsed, header: &mut [u32; 7]) -> u32
     ensures { λ r. ⌜ r ≡ parseNumber answer ⌝ }
     ensures { λ _. ⌜ now (header .exit) ≡ headerAfter answer (now (header .entry)) ⌝ }
 {
@@ -26,6 +26,7 @@ fn tell_parsed(answer: Parsed, header: &mut [u32; 6]) -> u32
         Parsed::Header(h) => {
             let words = h.words;
             *header = [
+                words.sequence as u32,
                 h.index as u32,
                 words.id,
                 words.sender,
@@ -63,6 +64,7 @@ fn tell_counted(answer: Counted, frames: &mut usize) -> u32
 // Writes one frame of a message at the start of `out`; `extent` receives the frame's length.
 #[no_mangle]
 pub extern "C" fn hs_frame_write(
+    sequence: u8,
     id: u32,
     sender: u32,
     status: u32,
@@ -73,11 +75,12 @@ pub extern "C" fn hs_frame_write(
     out: &mut [u8],
     extent: &mut usize,
 ) -> u32
-    ensures { λ r. ⌜ r ≡ writeNumber (written (envelopeOf id sender status receiver) (now (message .entry)) size index (now (out .entry))) ⌝ }
-    ensures { λ _. ⌜ now (out .exit) ≡ outputAfter (envelopeOf id sender status receiver) (now (message .entry)) size index (now (out .entry)) ⌝ }
-    ensures { λ _. ⌜ now (extent .exit) ≡ lengthAfter (written (envelopeOf id sender status receiver) (now (message .entry)) size index (now (out .entry))) (now (extent .entry)) ⌝ }
+    ensures { λ r. ⌜ r ≡ writeNumber (written (envelopeOf sequence id sender status receiver) (now (message .entry)) size index (now (out .entry))) ⌝ }
+    ensures { λ _. ⌜ now (out .exit) ≡ outputAfter (envelopeOf sequence id sender status receiver) (now (message .entry)) size index (now (out .entry)) ⌝ }
+    ensures { λ _. ⌜ now (extent .exit) ≡ lengthAfter (written (envelopeOf sequence id sender status receiver) (now (message .entry)) size index (now (out .entry))) (now (extent .entry)) ⌝ }
 {
     let e = Envelope {
+        sequence,
         id,
         sender,
         status,

@@ -9,15 +9,15 @@ ghost use Rattle.hoursquall.specs.Reassembly.{verdictNumber, wordsAfter,
 // The answer that a message is delivered.
 const DELIVERED: u32 = 100;
 
-// Takes one frame into a reassembly. `state` is a block of seven numbers (see `stateOf`), `words` receives
+// Takes one frame into a reassembly. `state` is a block of eight numbers (see `stateOf`), `words` receives
 // the carried words of a message that is delivered.
 #[no_mangle]
 pub extern "C" fn hs_reassembly_step(
-    state: &mut [u64; 7],
+    state: &mut [u64; 8],
     frame: &[u8],
     us: u32,
     buffer: &mut [u8],
-    words: &mut [u32; 4],
+    words: &mut [u32; 5],
 ) -> u32
     ensures { λ r. ⌜ r ≡ answered us (lending (now (state .entry)) (now (buffer .entry)) (now (words .entry))) (now (frame .entry)) ⌝ }
     ensures { λ _. ⌜ now (state .exit) ≡ left us (lending (now (state .entry)) (now (buffer .entry)) (now (words .entry))) (now (frame .entry)) .block ⌝ }
@@ -28,7 +28,7 @@ pub extern "C" fn hs_reassembly_step(
     tell(answer, state, words)
 }
 
-fn tell(answer: Answer, state: &mut [u64; 7], words: &mut [u32; 4]) -> u32
+fn tell(answer: Answer, state: &mut [u64; 8], words: &mut [u32; 5]) -> u32
     ensures { λ r. ⌜ r ≡ verdictNumber (answer .verdict) ⌝ }
     ensures { λ _. ⌜ now (state .exit) ≡ blockAfter (verdictNumber (answer .verdict)) (answer .state) (now (state .entry)) ⌝ }
     ensures { λ _. ⌜ now (words .exit) ≡ wordsAfter (answer .verdict) (now (words .entry)) ⌝ }
@@ -40,14 +40,14 @@ fn tell(answer: Answer, state: &mut [u64; 7], words: &mut [u32; 4]) -> u32
     number
 }
 
-fn tell_verdict(verdict: Verdict, words: &mut [u32; 4]) -> u32
+fn tell_verdict(verdict: Verdict, words: &mut [u32; 5]) -> u32
     ensures { λ r. ⌜ r ≡ verdictNumber verdict ⌝ }
     ensures { λ _. ⌜ now (words .exit) ≡ wordsAfter verdict (now (words .entry)) ⌝ }
 {
     match verdict {
         Verdict::More => 0,
         Verdict::Delivered(w, _) => {
-            *words = [w.id, w.sender, w.status, w.total];
+            *words = [w.sequence as u32, w.id, w.sender, w.status, w.total];
             DELIVERED
         }
         Verdict::Refused(reason) => reason.number(),

@@ -15,8 +15,16 @@ const RECEIVER: u32 = 11;
 const STATUS: u32 = 0xFFFF_FFFF;
 
 fn say_message(words: Words, message: &[u8]) {
-    let said = [words.id as u64, words.sender as u64, words.status as u64];
-    report::pattern(b": delivered, message #, sender %, word #, data", &said);
+    let said = [
+        words.sequence as u64,
+        words.id as u64,
+        words.sender as u64,
+        words.status as u64,
+    ];
+    report::pattern(
+        b": delivered, sequence %, message #, sender %, word #, data",
+        &said,
+    );
     report::bytes(message);
 }
 
@@ -41,17 +49,21 @@ fn say_state(state: State) {
     }
 }
 
-// The frame with that Index of the message of the first bytes 1, 2, 3 and on, in pieces of two.
-fn lay(total: usize, index: usize, byte_0: u8, receiver: u32, status: u32) -> [u8; 257] {
-    let envelope = Envelope {
+fn envelope(sequence: u8, receiver: u32, status: u32) -> Envelope {
+    Envelope {
+        sequence,
         id: ID,
         sender: SENDER,
         status,
         receiver,
-    };
+    }
+}
+
+// The frame with that Index of the message of the first bytes 1, 2, 3 and on, in pieces of two.
+fn lay(e: Envelope, total: usize, index: usize, byte_0: u8) -> [u8; 257] {
     let message = le::head(b"\x01\x02\x03\x04\x05\x06\x07\x08\x09", total);
     let mut out = [0u8; 257];
-    frame::write::write(envelope, message, 2, index, &mut out);
+    frame::write::write(e, message, 2, index, &mut out);
     out[0] = byte_0;
     out
 }
@@ -76,13 +88,27 @@ fn receive(what: &[u8], before: Receiver, frame: &[u8]) -> Receiver {
 
 // A frame as it was written, cut or filled up with zeros to a length.
 fn send(what: &[u8], before: Receiver, total: usize, index: usize, length: usize) -> Receiver {
-    let out = lay(total, index, Header::TYPE_VERSION, RECEIVER, STATUS);
+    let e = envelope(0, RECEIVER, STATUS);
+    let out = lay(e, total, index, Header::TYPE_VERSION);
     receive(what, before, le::head(&out, length))
 }
 
 // The frame with Index 1 of five bytes that differs in a word.
 fn send_other(what: &[u8], before: Receiver, byte_0: u8, receiver: u32, status: u32) -> Receiver {
-    let out = lay(5, 1, byte_0, receiver, status);
+    let out = lay(envelope(0, receiver, status), 5, 1, byte_0);
+    receive(what, before, le::head(&out, 26))
+}
+
+// A frame of 26 bytes, of the message with that sequence number.
+fn send_numbered(
+    what: &[u8],
+    before: Receiver,
+    sequence: u8,
+    total: usize,
+    index: usize,
+) -> Receiver {
+    let e = envelope(sequence, RECEIVER, STATUS);
+    let out = lay(e, total, index, Header::TYPE_VERSION);
     receive(what, before, le::head(&out, 26))
 }
 
@@ -107,10 +133,20 @@ fn run_open(fresh: Receiver) -> Receiver {
     send_other(b"index 1, word 0x00000000", other, right, RECEIVER, 0)
 }
 
+// Frames of which byte 1 differs: where the Index is the next one, and where it is not.
+fn run_numbered(fresh: Receiver) -> Receiver {
+    let whole = send_numbered(b"index 0 of 2 bytes, sequence 255", fresh, 255, 2, 0);
+    let first = send_numbered(b"index 0, sequence 255", whole, 255, 5, 0);
+    let other = send_numbered(b"index 1, sequence 254", first, 254, 5, 1);
+    let again = send_numbered(b"index 0, sequence 255", other, 255, 5, 0);
+    send_numbered(b"index 2, sequence 254", again, 254, 5, 2)
+}
+
 // An open state for which no frame can have come.
 fn no_state() -> State {
     State::Open(Progress {
         words: Words {
+            sequence: 0,
             id: ID,
             sender: SENDER,
             status: STATUS,
@@ -140,5 +176,5 @@ pub fn run() {
     report::text(
         b"\nReassembly of a message of 5 bytes in pieces of 2, for receiver 11, buffer of 8",
     );
-    run_first(run_open(run_loss(starting(State::Fresh))));
+    run_first(run_numbered(run_open(run_loss(starting(State::Fresh)))));
 }

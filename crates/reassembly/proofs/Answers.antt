@@ -60,6 +60,7 @@ module _ (s : State) (p : Progress) (room : ℕ) (is-open : s ≡ Open p) where
 
 -- what is known of a consistent open state
 pub record Consistent (p : Progress) (room : ℕ) : Type 0 where
+  pub some : 1 ≤ p .next
   pub order : p .next ≤ p .filled
   pub less : p .filled < p .words .total
   pub bounded : p .words .total ≤ messageMax
@@ -74,6 +75,7 @@ consistent-open p room e =
     let c = both (ltb (p .filled) total) _ (b .1) in
     let d = both (leb total messageMax) _ (c .1) in
     record {
+      some = leb-true 1 (p .next) (a .0);
       order = leb-true (p .next) (p .filled) (b .0);
       less = ltb-true (p .filled) total (c .0);
       bounded = leb-true total messageMax (d .0);

@@ -12,7 +12,7 @@ use lib.Seq.{take-at, drop-at}
 use Rattle.le.specs.Word.{word}
 use Rattle.le.proofs.Tests.{apart}
 use Rattle.le.proofs.Comparing.{same-self, same-true}
-use Rattle.frame.specs.Layout.{headerSize, frameMax, pieceMax, messageMax, typeVersion, wordsOf, wordsFrom, headerBytes, headerOf, headerFor, frameOf}
+use Rattle.frame.specs.Layout.{headerSize, frameMax, pieceMax, messageMax, typeVersion, wordsOf, wordsAt, headerBytes, headerOf, headerFor, frameOf}
 use Rattle.frame.specs.Reading.{parsed, dataOf}
 use Rattle.frame.specs.Statements.{Fits}
 use Rattle.frame.specs.declared.Envelope.{Envelope}
@@ -94,8 +94,8 @@ in-order h p b filled =
     goes-on h p _ b (record { words = h .words; next = h .index; filled = filled }) refl (eq-eqb (h .index) (h .index) refl) (same-self (wordsOf (h .words)))
 
 -- words whose lists are the same are equal
-words-equal : (v w : Words) → sameWords v w ≡ true → w ≡ v
-words-equal v w e = ap wordsFrom (sym (same-true (wordsOf v) (wordsOf w) e))
+pub words-equal : (v w : Words) → sameWords v w ≡ true → w ≡ v
+words-equal v w e = ap (wordsAt 0) (sym (same-true (wordsOf v) (wordsOf w) e))
 
 -- off the track of a message with these words, at Index i: nothing is open, or what is open has other words or waits for an Index below i
 abbrev pub Off : Words → ℕ → State → Type 0

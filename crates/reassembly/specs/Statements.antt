@@ -13,16 +13,18 @@ use Rattle.frame.specs.Reading as Reading
 use Rattle.frame.specs.Reading.{parsed}
 use Rattle.frame.specs.Statements.{Fits, countUp}
 use Rattle.frame.specs.Writing.{counted, frameAt}
+use Rattle.frame.specs.declared.Header.{Header}
 use Rattle.frame.specs.declared.read.Parsed.the-variants as Parsed
 use Rattle.frame.specs.declared.read.Reason.{Reason as ReadReason}
 use Rattle.frame.specs.declared.write.Counted.the-variants.{Frames}
-use Rattle.reassembly.specs.Step.{numberOf, consistent, stepOf}
+use Rattle.reassembly.specs.Step.{numberOf, consistent, refused, stepOf}
 use Rattle.reassembly.specs.Run.{HandedUp, verdicts, upBy, run, messages}
 use Rattle.reassembly.specs.Traffic.{Message, Sent, Transmission, Traffic, PutIn, Legal, LegalTraffic, ApartTraffic, envelopeFor, callsFrom, calls, asSent, arrived, expected}
+use Rattle.reassembly.specs.declared.Progress.{Progress}
 use Rattle.reassembly.specs.declared.State.{State}
 use Rattle.reassembly.specs.declared.State.the-variants.{Fresh, Open}
 use Rattle.reassembly.specs.declared.Reason.{Reason}
-use Rattle.reassembly.specs.declared.Reason.the-variants.{BadState}
+use Rattle.reassembly.specs.declared.Reason.the-variants.{OtherWords, BadState}
 use Rattle.reassembly.specs.declared.Verdict.{Verdict}
 use Rattle.reassembly.specs.declared.Verdict.the-variants.{Refused}
 
@@ -164,6 +166,31 @@ RefusalLeaves =
     → (numberOf reason ≤ 4 → stepOf us state buffer frame .answer .state ≡ state)
     × (5 ≤ numberOf reason → stepOf us state buffer frame .answer .state ≡ Fresh)
     × (stepOf us state buffer frame .buffer ≡ buffer)
+
+-- 7: "Index is the next one, a carried word differs". The frame is read, the state is consistent and open, the Index is its next one, and the five carried
+-- words are not all the same. (11, 1 to 4 and 6 are not due then, nor is 10: the next Index is not 0.)
+pub record WordsDiffer (us : ℕ) (state : State) (room : ℕ) (frame : List ℕ) : Type 0 where
+  pub header : Header
+  pub progress : Progress
+  pub reads : parsed us frame ≡ Parsed.Header header
+  pub state-is : state ≡ Open progress
+  pub sound : consistent state room ≡ true
+  pub next : header .index ≡ progress .next
+  pub differ : header .words ≡ progress .words → ⊥
+
+-- `other-words-refused`. There 7 is given, and nowhere else:
+abbrev pub OtherWordsRefused : Type 0
+OtherWordsRefused =
+    (us : ℕ) (state : State) (buffer frame : List ℕ)
+    → WordsDiffer us state (length buffer) frame
+    → stepOf us state buffer frame ≡ refused OtherWords state buffer
+
+-- `refused-other-words`. where 7 is given they differ.
+abbrev pub RefusedOtherWords : Type 0
+RefusedOtherWords =
+    (us : ℕ) (state : State) (buffer frame : List ℕ)
+    → stepOf us state buffer frame .answer .verdict ≡ Refused OtherWords
+    → WordsDiffer us state (length buffer) frame
 
 -- how many of the buffer's bytes belong to what is open
 abbrev pub filledOf : State → ℕ

@@ -16,8 +16,9 @@ use Rattle.frame.specs.declared.Envelope.{Envelope}
 use Rattle.frame.specs.declared.Words.{Words}
 use Rattle.reassembly.specs.Run.{HandedUp}
 
--- a message: the three words that are free, and its bytes
+-- a message: the four words that are free, and its bytes
 pub record Message : Type 0 where
+  pub sequence : ℕ
   pub id : ℕ
   pub sender : ℕ
   pub status : ℕ
@@ -49,9 +50,9 @@ PutIn us f =
     ≡ true
 
 abbrev pub envelopeFor : ℕ → Message → Envelope
-envelopeFor us m = record { id = m .id; sender = m .sender; status = m .status; receiver = us }
+envelopeFor us m = record { sequence = m .sequence; id = m .id; sender = m .sender; status = m .status; receiver = us }
 
--- a message "of at most 4,096 bytes and no longer than that buffer", its words of 32 bits, "framed by the rules", and what was put in between
+-- a message "of at most 4,096 bytes and no longer than that buffer", its words as wide as a frame has them, "framed by the rules", and what was put in between
 pub record Framed (us room : ℕ) (t : Transmission) : Type 0 where
   pub words : Fits (envelopeFor us (t .message))
   pub bounded : length (t .message .bytes) ≤ messageMax
@@ -74,7 +75,7 @@ pub record LegalTraffic (us room : ℕ) (t : Traffic) : Type 0 where
 
 -- the carried words of a message as it is sent
 abbrev pub sentWords : Message → Words
-sentWords m = record { id = m .id; sender = m .sender; status = m .status; total = length (m .bytes) }
+sentWords m = record { sequence = m .sequence; id = m .id; sender = m .sender; status = m .status; total = length (m .bytes) }
 
 abbrev pub FirstLost : List Sent → Type 0
 FirstLost [] = ⊥

@@ -143,6 +143,9 @@ fn is_consistent(state: State, room: usize) -> bool
 fn same_words(v: Words, w: Words) -> bool
     ensures { λ r. ⌜ r ≡ sameWords v w ⌝ }
 {
+    if v.sequence != w.sequence {
+        return false;
+    }
     if v.id != w.id {
         return false;
     }

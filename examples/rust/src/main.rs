@@ -25,6 +25,7 @@ const MEMORY: &[u8] = b"\
 /// The deck computer writes the frames of a message, and the head takes all but the lost one. A
 /// refusal is no reason to stop: nothing is handed up, and the state is ready for what follows.
 fn transmit(
+    sequence: u8,
     id: u32,
     message: &[u8],
     lost: Option<usize>,
@@ -32,6 +33,7 @@ fn transmit(
     buffer: &mut [u8],
 ) -> Result<(), Refusal> {
     let envelope = Envelope {
+        sequence,
         id,
         sender: DECK,
         receiver: HEAD,
@@ -69,8 +71,8 @@ fn main() -> Result<(), Refusal> {
 
     // What the head keeps from frame to frame.
     let (mut state, mut buffer) = (Reassembly::default(), [0; MESSAGE_MAX]);
-    transmit(1, speed, None, &mut state, &mut buffer)?;
-    transmit(2, speed, Some(1), &mut state, &mut buffer)?;
+    transmit(0, 1, speed, None, &mut state, &mut buffer)?;
+    transmit(1, 2, speed, Some(1), &mut state, &mut buffer)?;
 
     let (mut positions, mut ring) = (Positions::default(), [0; 64]);
     positions.post(&mut ring, 6, b"send message 2 again")?;

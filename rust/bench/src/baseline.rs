@@ -38,12 +38,12 @@ pub fn sum32(bytes: &[u8]) -> u32 {
 }
 
 #[inline(never)]
-pub fn parse(frame: &[u8], us: u32, header: &mut [u32; 6]) -> u32 {
+pub fn parse(frame: &[u8], us: u32, header: &mut [u32; 7]) -> u32 {
     read_header(frame, us, header)
 }
 
 #[inline(always)]
-fn read_header(frame: &[u8], us: u32, header: &mut [u32; 6]) -> u32 {
+fn read_header(frame: &[u8], us: u32, header: &mut [u32; 7]) -> u32 {
     if frame.len() < HEADER_SIZE {
         return 1;
     }
@@ -57,6 +57,7 @@ fn read_header(frame: &[u8], us: u32, header: &mut [u32; 6]) -> u32 {
         return 4;
     }
     *header = [
+        u32::from(frame[1]),
         u32::from(u16::from_le_bytes([frame[2], frame[3]])),
         word_at(frame, 4),
         word_at(frame, 8),
@@ -82,6 +83,7 @@ pub fn count(length: usize, piece_size: usize, frames: &mut usize) -> u32 {
 #[inline(never)]
 #[allow(clippy::too_many_arguments)] // those of the C function
 pub fn write(
+    sequence: u8,
     id: u32,
     sender: u32,
     status: u32,
@@ -107,7 +109,7 @@ pub fn write(
     if out.len() < length {
         return 14;
     }
-    out[..4].copy_from_slice(&[0x11, 0, index as u8, (index >> 8) as u8]);
+    out[..4].copy_from_slice(&[0x11, sequence, index as u8, (index >> 8) as u8]);
     let words = [id, sender, receiver, status, message.len() as u32];
     for (place, word) in out[4..HEADER_SIZE].chunks_exact_mut(4).zip(words) {
         place.copy_from_slice(&word.to_le_bytes());
@@ -119,66 +121,69 @@ pub fn write(
 
 #[inline(never)]
 pub fn step(
-    state: &mut [u64; 7],
+    state: &mut [u64; 8],
     frame: &[u8],
     us: u32,
     buffer: &mut [u8],
-    words: &mut [u32; 4],
+    words: &mut [u32; 5],
 ) -> u32 {
     if !is_state(state, buffer.len()) {
-        *state = [0; 7];
+        *state = [0; 8];
         return 11;
     }
-    let mut header = [0; 6];
+    let mut header = [0; 7];
     let refusal = read_header(frame, us, &mut header);
     if refusal != 0 {
         return refusal;
     }
     let answer = accept(state, &header, &frame[HEADER_SIZE..], buffer);
     if answer == 100 {
-        *words = [header[1], header[2], header[4], header[5]];
+        *words = [header[0], header[2], header[3], header[5], header[6]];
     }
     if answer != 0 {
-        *state = [0; 7];
+        *state = [0; 8];
     }
     answer
 }
 
 /// Fresh or consistent.
 #[inline(always)]
-fn is_state(&[kind, id, sender, status, total, next, filled]: &[u64; 7], buffer: usize) -> bool {
+fn is_state(state: &[u64; 8], buffer: usize) -> bool {
+    let &[kind, sequence, id, sender, status, total, next, filled] = state;
+    let narrow = sequence >> 8 == 0 && (id | sender | status) >> 32 == 0;
     let ordered = 1 <= next && next <= filled && filled < total;
     let fits = total <= 4096 && total <= buffer as u64;
-    kind == 0 || kind == 1 && (id | sender | status) >> 32 == 0 && ordered && fits
+    kind == 0 || kind == 1 && narrow && ordered && fits
 }
 
 /// What a frame that parses leads to. A state in which more is wanted is written here.
 #[inline(always)]
-fn accept(state: &mut [u64; 7], header: &[u32; 6], data: &[u8], buffer: &mut [u8]) -> u32 {
-    let [index, id, sender, _, status, total] = header.map(u64::from);
+fn accept(state: &mut [u64; 8], header: &[u32; 7], data: &[u8], buffer: &mut [u8]) -> u32 {
+    let [sequence, index, id, sender, _, status, total] = header.map(u64::from);
+    let carried = (sequence, id, sender, status, total);
     if index == 0 {
         if total > 4096 || total > buffer.len() as u64 {
             return 10;
         }
-        *state = [1, id, sender, status, total, 0, 0];
+        *state = [1, sequence, id, sender, status, total, 0, 0];
     } else if state[0] == 0 {
         return 5;
-    } else if state[5] != index {
+    } else if state[6] != index {
         return 6;
-    } else if (state[1], state[2], state[3], state[4]) != (id, sender, status, total) {
+    } else if (state[1], state[2], state[3], state[4], state[5]) != carried {
         return 7;
     }
     if data.is_empty() && total != 0 {
         return 8;
     }
-    let start = state[6] as usize;
+    let start = state[7] as usize;
     if data.len() > total as usize - start {
         return 9;
     }
     let filled = start + data.len();
     buffer[start..filled].copy_from_slice(data);
-    state[5] = index + 1;
-    state[6] = filled as u64;
+    state[6] = index + 1;
+    state[7] = filled as u64;
     if filled == total as usize {
         100
     } else {

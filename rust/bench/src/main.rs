@@ -25,6 +25,7 @@ global_asm!(
     ".text"
 );
 
+const SEQUENCE: u8 = 9;
 const ID: u32 = 0x0102_0304;
 const SENDER: u32 = 10;
 const RECEIVER: u32 = 11;
@@ -48,10 +49,10 @@ const FRAME: usize = 256;
 const RECORD: usize = 260;
 
 /// The functions as both sides have them.
-type Parse = fn(&[u8], u32, &mut [u32; 6]) -> u32;
+type Parse = fn(&[u8], u32, &mut [u32; 7]) -> u32;
 type Count = fn(usize, usize, &mut usize) -> u32;
-type Write = fn(u32, u32, u32, u32, &[u8], usize, usize, &mut [u8], &mut usize) -> u32;
-type Step = fn(&mut [u64; 7], &[u8], u32, &mut [u8], &mut [u32; 4]) -> u32;
+type Write = fn(u8, u32, u32, u32, u32, &[u8], usize, usize, &mut [u8], &mut usize) -> u32;
+type Step = fn(&mut [u64; 8], &[u8], u32, &mut [u8], &mut [u32; 5]) -> u32;
 type Post = fn(&mut [u8], &mut [usize; 2], u32, &[u8]) -> u32;
 type Take = fn(&[u8], &mut [usize; 2], &mut [u8], &mut u32, &mut usize) -> u32;
 type Table = fn(&[u8], u64, u64, &mut [usize; 2]) -> u32;
@@ -115,7 +116,7 @@ fn parse() {
         call_write(baseline::write, &message(), PIECE, 7, &mut frame).0,
         0
     );
-    let (mut library_header, mut rust_header) = ([0; 6], [0; 6]);
+    let (mut library_header, mut rust_header) = ([0; 7], [0; 7]);
     print_rounds(
         "parse, a frame of 256 B",
         || call_parse(library::parse, &frame, &mut library_header),
@@ -373,7 +374,7 @@ fn message() -> [u8; MESSAGE] {
 // cost more.
 
 #[inline(always)]
-fn call_parse(parse: Parse, frame: &[u8; 256], header: &mut [u32; 6]) -> u32 {
+fn call_parse(parse: Parse, frame: &[u8; 256], header: &mut [u32; 7]) -> u32 {
     parse(black_box(frame), black_box(RECEIVER), black_box(header))
 }
 
@@ -394,6 +395,7 @@ fn call_write(
 ) -> (u32, usize) {
     let mut frame_len = 0;
     let answer = write(
+        black_box(SEQUENCE),
         black_box(ID),
         black_box(SENDER),
         black_box(STATUS),
@@ -408,8 +410,8 @@ fn call_write(
 }
 
 #[inline(always)]
-fn call_steps(step: Step, frames: &[Vec<u8>], buffer: &mut [u8; MESSAGE]) -> (u32, [u32; 4]) {
-    let (mut state, mut words) = ([0; 7], [0; 4]);
+fn call_steps(step: Step, frames: &[Vec<u8>], buffer: &mut [u8; MESSAGE]) -> (u32, [u32; 5]) {
+    let (mut state, mut words) = ([0; 8], [0; 5]);
     let mut answer = 0;
     for frame in black_box(frames) {
         let (state, buffer) = (black_box(&mut state), black_box(&mut *buffer));

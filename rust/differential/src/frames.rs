@@ -11,6 +11,7 @@ pub type Frames = Result<Vec<Vec<u8>>, Refusal>;
 
 pub fn random_envelope(random: &mut Random) -> Envelope {
     Envelope {
+        sequence: random.u8(),
         id: random.word(),
         sender: random.word(),
         receiver: random.word(),
@@ -21,6 +22,7 @@ pub fn random_envelope(random: &mut Random) -> Envelope {
 /// The same envelope, in the reference's type.
 pub fn for_reference(envelope: &Envelope) -> reference::frame::Envelope {
     reference::frame::Envelope {
+        sequence: envelope.sequence,
         id: envelope.id,
         sender: envelope.sender,
         receiver: envelope.receiver,

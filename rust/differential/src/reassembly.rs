@@ -6,7 +6,7 @@ use hoursquall::{raw, Reassembly, Verdict, Words};
 use reference::reassembly::{self, Answer, Open, State};
 
 /// A state as the library has it.
-pub type Block = [u64; 7];
+pub type Block = [u64; 8];
 
 /// Both implementations side by side. Each goes on from the state and the buffer that its last
 /// call left; each call, and all that it was lent, is compared.
@@ -30,7 +30,7 @@ impl Machine {
     pub fn new(random: &mut Random, us: u32, state: Block, buffer: &[u8]) -> Machine {
         let lent = Lent {
             state: Memory::new(&state, random.u64()),
-            words: Memory::new(&[0; 4].map(|_| random.u32()), random.u32()),
+            words: Memory::new(&[0; 5].map(|_| random.u32()), random.u32()),
             buffer: Memory::new(buffer, random.u8()),
         };
         Machine {
@@ -80,8 +80,8 @@ impl Machine {
 
 impl Lent {
     fn library_step(&mut self, frame: &[u8], us: u32) -> u32 {
-        let state: &mut Block = self.state.lent().try_into().expect("seven are lent");
-        let words: &mut [u32; 4] = self.words.lent().try_into().expect("four are lent");
+        let state: &mut Block = self.state.lent().try_into().expect("eight are lent");
+        let words: &mut [u32; 5] = self.words.lent().try_into().expect("five are lent");
         let buffer = self.buffer.lent();
         let (start, length) = (buffer.as_mut_ptr(), buffer.len());
         // SAFETY: each pointer and length are those of one slice, and what is written is borrowed
@@ -92,7 +92,7 @@ impl Lent {
     }
 
     fn reference_step(&mut self, frame: &[u8], us: u32) -> Verdict {
-        let block: Block = (&*self.state.lent()).try_into().expect("seven are lent");
+        let block: Block = (&*self.state.lent()).try_into().expect("eight are lent");
         let answer = match state_of(block) {
             Some(state) => reassembly::step(state, frame, us, self.buffer.lent()),
             None => Answer {
@@ -105,19 +105,19 @@ impl Lent {
             self.state.lent().copy_from_slice(&block_of(answer.state));
         }
         if let reassembly::Verdict::Delivered(words) = answer.verdict {
-            let words = [words.id, words.sender, words.status, words.total];
-            self.words.lent().copy_from_slice(&words);
+            self.words.lent().copy_from_slice(&numbers_of(words));
         }
         for_library(answer.verdict)
     }
 }
 
 /// The state that a block stands for, if it stands for one.
-fn state_of([kind, id, sender, status, total, next, filled]: Block) -> Option<State> {
+fn state_of([kind, sequence, id, sender, status, total, next, filled]: Block) -> Option<State> {
     if kind == 0 {
         return Some(State::Fresh);
     }
     let words = reassembly::Words {
+        sequence: sequence.try_into().ok()?,
         id: id.try_into().ok()?,
         sender: sender.try_into().ok()?,
         status: status.try_into().ok()?,
@@ -138,11 +138,16 @@ fn block_of(state: State) -> Block {
         filled,
     }) = state
     else {
-        return [0; 7];
+        return [0; 8];
     };
-    let [id, sender, status, total] =
-        [words.id, words.sender, words.status, words.total].map(u64::from);
-    [1, id, sender, status, total, next, filled]
+    let [sequence, id, sender, status, total] = numbers_of(words).map(u64::from);
+    [1, sequence, id, sender, status, total, next, filled]
+}
+
+/// The carried words as the library hands them up.
+fn numbers_of(words: reassembly::Words) -> [u32; 5] {
+    let sequence = u32::from(words.sequence);
+    [sequence, words.id, words.sender, words.status, words.total]
 }
 
 /// The same verdict, in the library's type.
@@ -150,6 +155,7 @@ fn for_library(verdict: reassembly::Verdict) -> Verdict {
     match verdict {
         reassembly::Verdict::More => Verdict::More,
         reassembly::Verdict::Delivered(words) => Verdict::Delivered(Words {
+            sequence: words.sequence,
             id: words.id,
             sender: words.sender,
             status: words.status,

@@ -44,9 +44,9 @@ fn declarator(name: &str, kind: &str) -> String {
         "*mut u8" => format!("uint8_t *{name}"),
         "*mut u32" => format!("uint32_t *{name}"),
         "*mut usize" => format!("size_t *{name}"),
-        "*mut [u32; 6]" => format!("uint32_t {name}[HS_HEADER_WORDS]"),
-        "*mut [u32; 4]" => format!("uint32_t {name}[HS_WORDS]"),
-        "*mut [u64; 7]" => format!("uint64_t {name}[HS_STATE_NUMBERS]"),
+        "*mut [u32; 7]" => format!("uint32_t {name}[HS_HEADER_WORDS]"),
+        "*mut [u32; 5]" => format!("uint32_t {name}[HS_WORDS]"),
+        "*mut [u64; 8]" => format!("uint64_t {name}[HS_STATE_NUMBERS]"),
         "*mut [usize; 2]" if name == "positions" => format!("size_t {name}[HS_POSITIONS]"),
         "*mut [usize; 2]" if name == "part" => format!("size_t {name}[HS_TABLE_NUMBERS]"),
         "*mut [usize; 3]" if name == "root" => format!("size_t {name}[HS_ROOT_NUMBERS]"),
@@ -91,9 +91,9 @@ fn what_is_exported_is_declared() {
     assert_eq!(exported, names(RAW, "pub fn "));
 }
 
-/// Each constant of the header that is not hexadecimal: sizes, places of the header's words, answers, and
-/// refusals by their numbers in document 01.
-const CONSTANTS: [(&str, usize); 80] = [
+/// Each constant of the header that is not hexadecimal: sizes, places of the words that are handed out, answers,
+/// and refusals by their numbers in document 01.
+const CONSTANTS: [(&str, usize); 86] = [
     ("HS_HEADER_SIZE", hoursquall::HEADER_SIZE),
     ("HS_FRAME_MAX", hoursquall::FRAME_MAX),
     ("HS_PIECE_MAX", hoursquall::PIECE_MAX),
@@ -113,15 +113,21 @@ const CONSTANTS: [(&str, usize); 80] = [
     ("HS_LOG_RECORD_SIZE", framelog::RECORD_SIZE),
     ("HS_LOG_HEADER_SIZE", framelog::HEADER_SIZE),
     ("HS_LOG_FRAME_MAX", framelog::FRAME_MAX),
-    ("HS_HEADER_INDEX", 0),
-    ("HS_HEADER_ID", 1),
-    ("HS_HEADER_SENDER", 2),
-    ("HS_HEADER_RECEIVER", 3),
-    ("HS_HEADER_STATUS", 4),
-    ("HS_HEADER_TOTAL", 5),
-    ("HS_HEADER_WORDS", 6),
-    ("HS_STATE_NUMBERS", 7),
-    ("HS_WORDS", 4),
+    ("HS_HEADER_SEQUENCE", 0),
+    ("HS_HEADER_INDEX", 1),
+    ("HS_HEADER_ID", 2),
+    ("HS_HEADER_SENDER", 3),
+    ("HS_HEADER_RECEIVER", 4),
+    ("HS_HEADER_STATUS", 5),
+    ("HS_HEADER_TOTAL", 6),
+    ("HS_HEADER_WORDS", 7),
+    ("HS_WORD_SEQUENCE", 0),
+    ("HS_WORD_ID", 1),
+    ("HS_WORD_SENDER", 2),
+    ("HS_WORD_STATUS", 3),
+    ("HS_WORD_TOTAL", 4),
+    ("HS_WORDS", 5),
+    ("HS_STATE_NUMBERS", 8),
     ("HS_POSITIONS", 2),
     ("HS_TABLE_NUMBERS", 2),
     ("HS_ROOT_NUMBERS", 3),

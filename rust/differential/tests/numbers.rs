@@ -38,6 +38,7 @@ const BOTH: [Implementation; 2] = [
 ];
 
 const ENVELOPE: Envelope = Envelope {
+    sequence: 0,
     id: 0x0102_0304,
     sender: 10,
     receiver: 11,
@@ -63,7 +64,7 @@ fn five_bytes_in_pieces_of_two() {
 fn second_frame_lost() {
     for Implementation { name, frames, .. } in BOTH {
         let frames = frames(&ENVELOPE, &[1, 2, 3, 4, 5], 2).expect(name);
-        let mut machine = Machine::new(&mut Random::new(70), 11, [0; 7], &[0; 5]);
+        let mut machine = Machine::new(&mut Random::new(70), 11, [0; 8], &[0; 5]);
         assert_eq!(machine.step(&frames[0]), Verdict::More, "{name}");
         assert_eq!(machine.step(&frames[2]), Verdict::Refused(6), "{name}");
     }

@@ -13,7 +13,7 @@ const LIMITS: [usize; 6] = [23, 24, 25, 255, 256, 257];
 /// Compares one call, and all that it was lent, with the reference.
 fn check(random: &mut Random, bytes: &[u8], us: u32) {
     let mut frame = Memory::new(bytes, random.u8());
-    let mut header = Memory::new(&[0; 6].map(|_| random.u32()), random.u32());
+    let mut header = Memory::new(&[0; 7].map(|_| random.u32()), random.u32());
     let frame_before = frame.clone();
     let mut header_after = header.clone();
     let expected = frame::parse(bytes, us);
@@ -33,13 +33,14 @@ fn check(random: &mut Random, bytes: &[u8], us: u32) {
 }
 
 fn call(frame: &[u8], us: u32, header: &mut [u32]) -> u32 {
-    let header: &mut [u32; 6] = header.try_into().expect("six words are lent");
+    let header: &mut [u32; 7] = header.try_into().expect("seven words are lent");
     // SAFETY: the pointer and the length are those of one slice, and `header` is another's.
     unsafe { raw::hs_frame_parse(frame.as_ptr(), frame.len(), us, header) }
 }
 
-fn words(h: &Header) -> [u32; 6] {
+fn words(h: &Header) -> [u32; 7] {
     [
+        h.sequence.into(),
         h.index.into(),
         h.id,
         h.sender,
@@ -49,8 +50,16 @@ fn words(h: &Header) -> [u32; 6] {
     ]
 }
 
-fn words_of_wrapper(h: &hoursquall::Header) -> [u32; 6] {
-    [h.index, h.id, h.sender, h.receiver, h.status, h.total]
+fn words_of_wrapper(h: &hoursquall::Header) -> [u32; 7] {
+    [
+        h.sequence.into(),
+        h.index,
+        h.id,
+        h.sender,
+        h.receiver,
+        h.status,
+        h.total,
+    ]
 }
 
 /// A frame of this length, and the receiver that reads it; with a wrong byte 0, another
@@ -101,6 +110,23 @@ fn every_byte_0() {
         }
     }
     report("parse, every byte 0", compared);
+}
+
+#[test]
+fn every_byte_1() {
+    let mut random = Random::new(15);
+    let mut compared = 0;
+    for byte in 0..=255 {
+        for length in LIMITS {
+            for faults in 0..4 {
+                let (mut frame, us) = frame(&mut random, length, faults & 1 > 0, faults & 2 > 0);
+                frame[1] = byte;
+                check(&mut random, &frame, us);
+                compared += 1;
+            }
+        }
+    }
+    report("parse, every byte 1", compared);
 }
 
 #[test]

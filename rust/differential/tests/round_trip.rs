@@ -16,6 +16,7 @@ fn check(envelope: &Envelope, message: &[u8], piece_size: usize) -> usize {
     let mut joined: Vec<u8> = Vec::new();
     for (index, frame) in frames.iter().enumerate() {
         let header = Header {
+            sequence: envelope.sequence,
             index: index as u32,
             id: envelope.id,
             sender: envelope.sender,
@@ -41,6 +42,7 @@ fn check_reassembly(envelope: &Envelope, message: &[u8], frames: &[Vec<u8>]) {
         assert_eq!(verdict, Verdict::More);
     }
     let words = Words {
+        sequence: envelope.sequence,
         id: envelope.id,
         sender: envelope.sender,
         status: envelope.status,
@@ -75,4 +77,20 @@ fn every_piece_size() {
         }
     }
     report("round trip, frames with every piece size", compared);
+}
+
+#[test]
+fn every_sequence_number() {
+    let mut random = Random::new(42);
+    let mut compared = 0;
+    for sequence in 0..=255 {
+        for length in [0, 1, PIECE_MAX + 1] {
+            let envelope = Envelope {
+                sequence,
+                ..random_envelope(&mut random)
+            };
+            compared += check(&envelope, &random.bytes(length), PIECE_MAX);
+        }
+    }
+    report("round trip, frames with every sequence number", compared);
 }

@@ -29,10 +29,10 @@ const TOTALS: [u64; 10] = [
 
 // Places in a state.
 const KIND: usize = 0;
-const WORDS: usize = 1;
-const TOTAL: usize = 4;
-const NEXT: usize = 5;
-const FILLED: usize = 6;
+const SEQUENCE: usize = 1; // the first of the carried words
+const TOTAL: usize = 5; // the last of them
+const NEXT: usize = 6;
+const FILLED: usize = 7;
 
 /// What one call is given.
 struct Case {
@@ -45,9 +45,7 @@ struct Case {
 impl Case {
     /// The frame, before any byte of it is spoilt.
     fn frame(&self, random: &mut Random) -> Vec<u8> {
-        let mut frame = [encode(&self.header), random.bytes(self.data)].concat();
-        frame[1] = random.u8(); // Reserved, and ignored
-        frame
+        [encode(&self.header), random.bytes(self.data)].concat()
     }
 
     fn check(&self, random: &mut Random) -> Verdict {
@@ -65,6 +63,7 @@ fn check(random: &mut Random, case: &Case, frame: &[u8], us: u32) -> Verdict {
 /// A header with any words, for a message of this length.
 fn header(random: &mut Random, index: usize, total: usize) -> Header {
     Header {
+        sequence: random.u8(),
         index: index as u16,
         id: random.word(),
         sender: random.word(),
@@ -76,9 +75,16 @@ fn header(random: &mut Random, index: usize, total: usize) -> Header {
 
 /// A state that is open with the header's words.
 fn open(header: &Header, next: usize, filled: usize) -> Block {
-    let words = [header.id, header.sender, header.status, header.total];
-    let [id, sender, status, total] = words.map(u64::from);
-    [1, id, sender, status, total, next as u64, filled as u64]
+    [
+        1,
+        header.sequence.into(),
+        header.id.into(),
+        header.sender.into(),
+        header.status.into(),
+        header.total.into(),
+        next as u64,
+        filled as u64,
+    ]
 }
 
 /// The refusal at a place of the order, and any of those behind it.
@@ -198,12 +204,15 @@ fn change_words(random: &mut Random, header: &mut Header) {
         &mut header.status,
         &mut header.total,
     ];
-    let several = random.within(1..=15);
-    let changed = random.pick(&[1, 2, 4, 8, several]);
+    let several = random.within(1..=31);
+    let changed = random.pick(&[1, 2, 4, 8, 16, several]);
     for (place, word) in words.into_iter().enumerate() {
         if changed & (1 << place) > 0 {
             *word = other_receiver(random, *word);
         }
+    }
+    if changed & 16 > 0 {
+        header.sequence ^= random.pick_or_within(&[1, 0x10, 0x80, 0xFF], 1..=255) as u8;
     }
 }
 
@@ -233,9 +242,10 @@ fn buffer(random: &mut Random, shortest: usize) -> usize {
 fn spoil_state(random: &mut Random, case: &mut Case) {
     let Case { state, buffer, .. } = case;
     state[KIND] = 1;
-    match random.within(0..=8) {
+    match random.within(0..=9) {
         0 => state[KIND] = random.pick(&[2, 3, 256, 257, 1 << 32, (1 << 32) + 1, u64::MAX]),
-        1 => state[WORDS + random.within(0..=3)] += 1 << random.within(32..=63),
+        1 => state[random.within(SEQUENCE + 1..=TOTAL)] += 1 << random.within(32..=63),
+        9 => state[SEQUENCE] += 1 << random.within(8..=63),
         2 => state[NEXT] = 0,
         3 => state[NEXT] = state[FILLED] + 1,
         4 => state[FILLED] = state[TOTAL],
@@ -306,6 +316,7 @@ fn check_small_frames(random: &mut Random, state: Block, buffer: usize, index: u
     for total in 0..=5 {
         for data in 0..=4 {
             let mut header = header(random, index, total);
+            header.sequence = random.pick(&[7, 7, 8]);
             [header.id, header.sender, header.status] = [1, 2, 3];
             let case = Case {
                 state,
@@ -322,12 +333,12 @@ fn check_small_frames(random: &mut Random, state: Block, buffer: usize, index: u
 
 /// Fresh, open with small numbers, and of no kind.
 fn small_states(random: &mut Random) -> Vec<Block> {
-    let mut states = vec![[0; 7], [2, 1, 2, 3, 4, 1, 1]];
+    let mut states = vec![[0; 8], [2, 7, 1, 2, 3, 4, 1, 1]];
     for (total, next) in (0..=4).flat_map(|total| (0..=4).map(move |next| (total, next))) {
         for filled in 0..=4 {
-            states.push([1, 1, 2, 3, total, next, filled]);
+            states.push([1, 7, 1, 2, 3, total, next, filled]);
         }
-        states.push([0, random.u64(), 2, 3, total, next, random.u64()]);
+        states.push([0, random.u64(), 1, 2, 3, total, next, random.u64()]);
     }
     states
 }
@@ -379,6 +390,53 @@ fn check_limits(random: &mut Random, [total, filled, next, buffer]: [u64; 4]) ->
     2
 }
 
+/// Two sequence numbers, where no other word differs: 7 where the Index is the next one and they are
+/// not the same, 6 where it is not. And numbers of the state that are no byte, though their lowest
+/// byte is the frame's: 11.
+#[test]
+fn every_pair_of_sequence_numbers() {
+    let mut random = Random::new(64);
+    let mut compared = 0;
+    for (opened, sequence) in (0..=255).flat_map(|a| (0..=255).map(move |b| (a, b))) {
+        let mut header = header(&mut random, 2, 5);
+        header.sequence = opened;
+        let state = open(&header, 2, 3);
+        header.sequence = sequence;
+        let next = if opened == sequence {
+            Verdict::More
+        } else {
+            Verdict::Refused(7)
+        };
+        assert_eq!(check_one_byte(&mut random, state, header), next);
+        header.index = random.pick(&[1, 3, 4]);
+        let late = check_one_byte(&mut random, state, header);
+        assert_eq!(late, Verdict::Refused(6));
+        compared += 2;
+    }
+    for (sequence, bit) in (0..=255).flat_map(|a| (8..=63).map(move |bit| (a, bit))) {
+        let mut header = header(&mut random, 2, 5);
+        header.sequence = sequence;
+        let mut state = open(&header, 2, 3);
+        state[SEQUENCE] += 1 << bit;
+        let wide = check_one_byte(&mut random, state, header);
+        assert_eq!(wide, Verdict::Refused(11));
+        compared += 1;
+    }
+    report("step, every pair of sequence numbers", compared);
+}
+
+/// A frame with one byte of data, and a buffer of five.
+fn check_one_byte(random: &mut Random, state: Block, header: Header) -> Verdict {
+    let (buffer, data) = (5, 1);
+    let case = Case {
+        state,
+        buffer,
+        header,
+        data,
+    };
+    case.check(random)
+}
+
 /// Numbers that know nothing of each other.
 #[test]
 fn garbage() {
@@ -387,7 +445,7 @@ fn garbage() {
     for _ in 0..count {
         let index = random.pick_or_within(&[0, 1, 2], 0..=65_535);
         let total = random.usize() >> random.within(32..=63);
-        let mut state = [0; 7].map(|_| random.u64() >> random.within(0..=63));
+        let mut state = [0; 8].map(|_| random.u64() >> random.within(0..=63));
         state[KIND] = random.pick(&[0, 1, 1, 2, state[KIND]]);
         let case = Case {
             state,

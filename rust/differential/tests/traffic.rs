@@ -110,6 +110,7 @@ impl Traffic {
 fn message(envelope: &Envelope, bytes: Vec<u8>) -> Message {
     Message {
         words: Words {
+            sequence: envelope.sequence,
             id: envelope.id,
             sender: envelope.sender,
             status: envelope.status,
@@ -186,11 +187,16 @@ fn length(random: &mut Random, longest: usize) -> usize {
 fn traffic(random: &mut Random, buffer: usize) -> Traffic {
     let mut traffic = Traffic::new(random.word());
     let longest = buffer.min(MESSAGE_MAX);
-    // Few, so that messages with the same words follow each other.
-    let envelopes = [(); 3].map(|()| Envelope {
+    // Few, so that messages with the same words follow each other, or with all but one the same.
+    let [first, other] = [(); 2].map(|()| Envelope {
         receiver: traffic.us,
         ..random_envelope(random)
     });
+    let next = Envelope {
+        sequence: first.sequence.wrapping_add(1),
+        ..first
+    };
+    let envelopes = [first, next, other];
     let mut repeated = length(random, longest);
     for _ in 0..random.within(0..=8) {
         if random.bool() {
@@ -209,12 +215,12 @@ fn traffic(random: &mut Random, buffer: usize) -> Traffic {
     traffic
 }
 
-/// A fresh state; whatever the six numbers behind its first are, they don't count.
+/// A fresh state; whatever the seven numbers behind its first are, they don't count.
 fn fresh(random: &mut Random) -> Block {
     if random.bool() {
-        return [0; 7];
+        return [0; 8];
     }
-    let mut state = [0; 7].map(|_| random.u64() >> random.within(0..=63));
+    let mut state = [0; 8].map(|_| random.u64() >> random.within(0..=63));
     state[0] = 0;
     state
 }

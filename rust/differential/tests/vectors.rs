@@ -101,6 +101,7 @@ fn extended(bytes: &[u8], length: usize) -> Vec<u8> {
 const US: u32 = 11;
 
 const ENVELOPE: Envelope = Envelope {
+    sequence: 0,
     id: 0x0102_0304,
     sender: 10,
     receiver: US,
@@ -119,6 +120,7 @@ fn frames() -> Vec<String> {
             write(5, 2, 2, 256),
             count(0, 2),
             write(0, 2, 0, 24),
+            write_numbered(255),
             count(4096, 232),
             write(4096, 232, 17, 256),
             count(4097, 232),
@@ -128,6 +130,7 @@ fn frames() -> Vec<String> {
             write(5, 2, 3, 256),
             write(5, 2, 0, 25),
             read("index 1, by receiver 11", &second, US),
+            read("byte 1 is 0xA5", &changed(&second, 1, 0xA5), US),
             read("its first 23 bytes", &second[..23], US),
             read("257 bytes", &extended(&second, 257), US),
             read("byte 0 is 0x12", &changed(&second, 0, 0x12), US),
@@ -157,10 +160,25 @@ fn write(length: usize, piece_size: usize, index: usize, room: usize) -> String 
     })
 }
 
+/// An empty message with that sequence number.
+fn write_numbered(sequence: u8) -> String {
+    let frame = frame_of(&numbered(sequence), 0, 0);
+    let what = format_args!("write, 0 bytes, sequence {sequence}");
+    format!("{what}: {} bytes: {}", frame.len(), shown(&frame))
+}
+
+fn numbered(sequence: u8) -> Envelope {
+    Envelope {
+        sequence,
+        ..ENVELOPE
+    }
+}
+
 fn read(what: &str, frame: &[u8], us: u32) -> String {
     let header = frame::parse(frame, us);
     case(format_args!("read, {what}"), header, |header| {
         let words = [
+            format!("sequence {}", header.sequence),
             format!("index {}", header.index),
             format!("message 0x{:08X}", header.id),
             format!("sender {}", header.sender),
@@ -196,6 +214,14 @@ fn reassembly() -> Vec<String> {
             receiver.step("index 1, byte 0 is 0x12", &changed(&second, 0, 0x12)),
             receiver.step("index 1, for receiver 12", &frame_of(&to_another, 5, 1)),
             receiver.step("index 1, word 0x00000000", &frame_of(&other_word, 5, 1)),
+            receiver.step(
+                "index 0 of 2 bytes, sequence 255",
+                &frame_of(&numbered(255), 2, 0),
+            ),
+            receiver.step("index 0, sequence 255", &frame_of(&numbered(255), 5, 0)),
+            receiver.step("index 1, sequence 254", &frame_of(&numbered(254), 5, 1)),
+            receiver.step("index 0, sequence 255", &frame_of(&numbered(255), 5, 0)),
+            receiver.step("index 2, sequence 254", &frame_of(&numbered(254), 5, 2)),
             receiver.step("index 0 of 9 bytes", &frame_of(&ENVELOPE, 9, 0)),
             receiver.step("index 0, without its data", &first[..24]),
             receiver.step("index 0, 6 bytes of data", &extended(&first, 30)),
@@ -218,6 +244,7 @@ impl Receiver {
     /// The five bytes are open, though none of them came.
     fn at_next_0(&mut self) -> &mut Receiver {
         let words = Words {
+            sequence: ENVELOPE.sequence,
             id: ENVELOPE.id,
             sender: ENVELOPE.sender,
             status: ENVELOPE.status,
@@ -244,6 +271,7 @@ impl Receiver {
 
     fn delivered(&self, words: &Words) -> String {
         let words_and_data = [
+            format!("sequence {}", words.sequence),
             format!("message 0x{:08X}", words.id),
             format!("sender {}", words.sender),
             format!("word 0x{:08X}", words.status),

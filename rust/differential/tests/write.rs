@@ -39,6 +39,7 @@ impl Case {
         // exclusively.
         unsafe {
             raw::hs_frame_write(
+                envelope.sequence,
                 envelope.id,
                 envelope.sender,
                 envelope.status,

@@ -17,7 +17,7 @@ pub fn sum32(bytes: &[u8]) -> u32 {
 }
 
 #[inline(always)]
-pub fn parse(frame: &[u8], us: u32, header: &mut [u32; 6]) -> u32 {
+pub fn parse(frame: &[u8], us: u32, header: &mut [u32; 7]) -> u32 {
     // SAFETY: the pointer and the length are those of one slice; `header` is borrowed exclusively.
     unsafe { raw::hs_frame_parse(frame.as_ptr(), frame.len(), us, header) }
 }
@@ -31,6 +31,7 @@ pub fn count(length: usize, piece_size: usize, frames: &mut usize) -> u32 {
 #[inline(always)]
 #[allow(clippy::too_many_arguments)] // those of the C function
 pub fn write(
+    sequence: u8,
     id: u32,
     sender: u32,
     status: u32,
@@ -45,6 +46,7 @@ pub fn write(
     // exclusively.
     unsafe {
         raw::hs_frame_write(
+            sequence,
             id,
             sender,
             status,
@@ -62,11 +64,11 @@ pub fn write(
 
 #[inline(always)]
 pub fn step(
-    state: &mut [u64; 7],
+    state: &mut [u64; 8],
     frame: &[u8],
     us: u32,
     buffer: &mut [u8],
-    words: &mut [u32; 4],
+    words: &mut [u32; 5],
 ) -> u32 {
     // SAFETY: each pointer and length are those of one slice; what is written is borrowed
     // exclusively.

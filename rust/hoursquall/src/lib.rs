@@ -4,7 +4,7 @@
 //! ```
 //! use hoursquall::{count, data, parse, write, Envelope, FRAME_MAX};
 //!
-//! let envelope = Envelope { id: 7, sender: 10, receiver: 11, status: 0 };
+//! let envelope = Envelope { sequence: 0, id: 7, sender: 10, receiver: 11, status: 0 };
 //! let message = b"a message of two frames";
 //! let mut joined: Vec<u8> = Vec::new();
 //! for index in 0..count(message.len(), 16)? {
@@ -63,6 +63,8 @@ pub type Refusal = u32;
 /// What a frame's header says, in the frame's order.
 #[derive(Clone, Copy, Debug, PartialEq, Eq)]
 pub struct Header {
+    /// The message's number, from byte 1, which is Reserved in T/GCC 3007-2025.
+    pub sequence: u8,
     /// The frame's place in its message, from 0.
     pub index: u32,
     /// Message ID.
@@ -80,6 +82,8 @@ pub struct Header {
 /// The words that every frame of a message repeats, besides the message's length.
 #[derive(Clone, Copy, Debug, PartialEq, Eq)]
 pub struct Envelope {
+    /// The message's number, in byte 1 of each frame. Any will do.
+    pub sequence: u8,
     /// Message ID.
     pub id: u32,
     /// Sender ID.
@@ -103,10 +107,11 @@ pub fn sum32(bytes: &[u8]) -> u32 {
 
 /// Reads the header of a frame for receiver `us`. Refusals, in order: 1 to 4.
 pub fn parse(frame: &[u8], us: u32) -> Result<Header, Refusal> {
-    let mut words = [0; 6];
+    let mut words = [0; 7];
     let answer = calls::parse(frame, us, &mut words);
-    let [index, id, sender, receiver, status, total] = words;
+    let [sequence, index, id, sender, receiver, status, total] = words;
     accepted(answer).map(|()| Header {
+        sequence: sequence as u8, // it is a byte of the frame
         index,
         id,
         sender,
@@ -140,6 +145,7 @@ pub fn write(
 ) -> Result<usize, Refusal> {
     let mut frame_len = 0;
     let answer = calls::write(
+        envelope.sequence,
         envelope.id,
         envelope.sender,
         envelope.status,

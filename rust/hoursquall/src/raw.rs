@@ -10,12 +10,13 @@ extern "C" {
         frame: *const u8,
         frame_len: usize,
         us: u32,
-        header: *mut [u32; 6],
+        header: *mut [u32; 7],
     ) -> u32;
 
     pub fn hs_frame_count(length: usize, piece_size: usize, frames: *mut usize) -> u32;
 
     pub fn hs_frame_write(
+        sequence: u8,
         id: u32,
         sender: u32,
         status: u32,
@@ -30,13 +31,13 @@ extern "C" {
     ) -> u32;
 
     pub fn hs_reassembly_step(
-        state: *mut [u64; 7],
+        state: *mut [u64; 8],
         frame: *const u8,
         frame_len: usize,
         us: u32,
         buffer: *mut u8,
         buffer_len: usize,
-        words: *mut [u32; 4],
+        words: *mut [u32; 5],
     ) -> u32;
 
     pub fn hs_notice_post(

@@ -7,7 +7,7 @@ use crate::{calls, Refusal};
 /// ```
 /// use hoursquall::{write, Envelope, Reassembly, Refusal, Verdict, FRAME_MAX};
 ///
-/// let envelope = Envelope { id: 7, sender: 10, receiver: 11, status: 0 };
+/// let envelope = Envelope { sequence: 0, id: 7, sender: 10, receiver: 11, status: 0 };
 /// let frame = |message: &[u8], index| {
 ///     let mut out = [0; FRAME_MAX];
 ///     let length = write(&envelope, message, 2, index, &mut out)?;
@@ -31,7 +31,7 @@ use crate::{calls, Refusal};
 /// ```
 #[derive(Clone, Copy, Debug, Default, PartialEq, Eq)]
 pub struct Reassembly {
-    numbers: [u64; 7],
+    numbers: [u64; 8],
 }
 
 /// What a frame led to.
@@ -48,6 +48,8 @@ pub enum Verdict {
 /// The words that a message carries.
 #[derive(Clone, Copy, Debug, PartialEq, Eq)]
 pub struct Words {
+    /// The message's number, from byte 1 of its frames.
+    pub sequence: u8,
     /// Message ID.
     pub id: u32,
     /// Sender ID.
@@ -63,27 +65,28 @@ impl Reassembly {
     /// as the last one left it. Refusals, in order: 11, 1 to 7, 10, 8, 9; they change no byte of
     /// the buffer, and only 1 to 4 keep an open message.
     pub fn step(&mut self, frame: &[u8], us: u32, buffer: &mut [u8]) -> Verdict {
-        let mut words = [0; 4];
+        let mut words = [0; 5];
         let answer = calls::step(&mut self.numbers, frame, us, buffer, &mut words);
         verdict(answer, words)
     }
 
     /// The state as `include/hoursquall.h` lays it out, to be kept elsewhere.
-    pub fn numbers(&self) -> [u64; 7] {
+    pub fn numbers(&self) -> [u64; 8] {
         self.numbers
     }
 
     /// A state from such numbers. Any will do: what is no state is refused with 11.
-    pub fn from_numbers(numbers: [u64; 7]) -> Self {
+    pub fn from_numbers(numbers: [u64; 8]) -> Self {
         Reassembly { numbers }
     }
 }
 
 /// The library answers 0, or 100 for a delivery, or the number of a refusal.
-fn verdict(answer: u32, [id, sender, status, total]: [u32; 4]) -> Verdict {
+fn verdict(answer: u32, [sequence, id, sender, status, total]: [u32; 5]) -> Verdict {
     match answer {
         0 => Verdict::More,
         100 => Verdict::Delivered(Words {
+            sequence: sequence as u8, // it is a byte of the message's frames
             id,
             sender,
             status,

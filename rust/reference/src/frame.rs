@@ -14,6 +14,8 @@ pub type Refusal = u32;
 /// What a frame's header says, in the frame's order.
 #[derive(Clone, Copy, Debug, PartialEq, Eq)]
 pub struct Header {
+    /// Byte 1: Reserved in T/GCC 3007-2025, the message's number to our heads.
+    pub sequence: u8,
     pub index: u16,
     pub id: u32,
     pub sender: u32,
@@ -25,6 +27,7 @@ pub struct Header {
 /// The words that every frame of a message repeats, besides the message's length.
 #[derive(Clone, Copy, Debug, PartialEq, Eq)]
 pub struct Envelope {
+    pub sequence: u8,
     pub id: u32,
     pub sender: u32,
     pub receiver: u32,
@@ -46,6 +49,7 @@ pub fn parse(frame: &[u8], us: u32) -> Result<Header, Refusal> {
         return Err(4);
     }
     Ok(Header {
+        sequence: frame[1],
         index: u16::from_le_bytes([frame[2], frame[3]]),
         id: word(frame, 4),
         sender: word(frame, 8),
@@ -127,6 +131,7 @@ fn one_frame(
 /// The frame that carries a piece of a message of `total` bytes.
 fn carrying(envelope: &Envelope, total: usize, index: usize, piece: &[u8]) -> Vec<u8> {
     let header = Header {
+        sequence: envelope.sequence,
         index: u16::try_from(index).expect("a message has at most 4,096 frames"),
         id: envelope.id,
         sender: envelope.sender,
@@ -158,8 +163,7 @@ fn piece(message: &[u8], piece_size: usize, index: usize) -> Option<&[u8]> {
 
 /// A header's 24 bytes.
 pub fn encode(header: &Header) -> Vec<u8> {
-    let reserved = 0;
-    let mut bytes = vec![TYPE_AND_VERSION, reserved];
+    let mut bytes = vec![TYPE_AND_VERSION, header.sequence];
     bytes.extend(header.index.to_le_bytes());
     bytes.extend(header.id.to_le_bytes());
     bytes.extend(header.sender.to_le_bytes());

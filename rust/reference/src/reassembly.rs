@@ -4,9 +4,10 @@ use crate::frame::{self, Header, Refusal};
 
 const MESSAGE_MAX: u64 = 4096;
 
-/// The four carried words.
+/// The five carried words.
 #[derive(Clone, Copy, Debug, PartialEq, Eq)]
 pub struct Words {
+    pub sequence: u8,
     pub id: u32,
     pub sender: u32,
     pub status: u32,
@@ -131,6 +132,7 @@ fn continued(state: State, header: &Header) -> Result<Open, Refusal> {
 
 fn carried(header: &Header) -> Words {
     Words {
+        sequence: header.sequence,
         id: header.id,
         sender: header.sender,
         status: header.status,

@@ -12,7 +12,8 @@ use Rattle.frame.proofs.Header.bytes.Statement.{statement}
 use Rattle.frame.proofs.Header.bytes.Tie as tie
 
 -- the twenty-four bytes, picked one by one out of the words' own
-joined : (h : Header) (i m s r o t : List ℕ)
+joined : (h : Header) (n i m s r o t : List ℕ)
+    → n ≡ bytes 1 (h .words .sequence)
     → i ≡ bytes 2 (h .index)
     → m ≡ bytes 4 (h .words .id)
     → s ≡ bytes 4 (h .words .sender)
@@ -20,7 +21,7 @@ joined : (h : Header) (i m s r o t : List ℕ)
     → o ≡ bytes 4 (h .words .status)
     → t ≡ bytes 4 (h .words .total)
     → 0x11
-    ∷ 0
+    ∷ getD n 0 0
     ∷ getD i 0 0
     ∷ getD i 1 0
     ∷ getD m 0 0
@@ -46,11 +47,12 @@ joined : (h : Header) (i m s r o t : List ℕ)
     ∷ []
     ≡ headerBytes h
 unfolding bytes headerBytes
-joined h i m s r o t ei em es er eo et = rw (ei, em, es, er, eo, et)
+joined h n i m s r o t en ei em es er eo et = rw (en, ei, em, es, er, eo, et)
 
 returns : tie.Need-returns
 returns c =
-    joined (c .before .before .before .before .before .before .before .args .self) _ _ _ _ _ _
+    joined (c .before .before .before .before .before .before .before .before .args .self) _ _ _ _ _ _ _
+    (c .before .before .before .before .before .before .u8-bytes .ensures)
     (c .before .before .before .before .before .u16-bytes .ensures)
     (c .before .before .before .before .u32-bytes .ensures)
     (c .before .before .before .u32-bytes2 .ensures)
@@ -68,6 +70,8 @@ bytes-spec =
     (λ c κs. search needs)
     (λ c κs. search needs)
     (λ c κs. search needs)
+    (λ c κs. search needs)
+    (λ c. search needs)
     (λ c. search needs)
     (λ c. search needs)
     (λ c. search needs)

@@ -8,5 +8,5 @@ use Rattle.hoursquall.proofs.messages.tell_verdict.Tie as tie
 pub tell-verdict-spec : {M : Type 1} → statement M
 tell-verdict-spec =
     tie.close
-    (tie.spec (λ c. search needs) (λ c. search needs) (λ c. search needs) (λ c κs. search needs) (λ c. search needs)
-    (λ c. rw (c .before .before .verdict .given .1) (refl, refl)) (λ c. search needs))
+    (tie.spec (λ c. search needs) (λ c. search needs) (λ c. search needs) (λ c. search needs) (λ c κs. search needs) (λ c. search needs)
+    (λ c. rw (c .before .before .before .verdict .given .1) (refl, refl)) (λ c. search needs))
