@@ -43,24 +43,24 @@ enum {
 
 /* Places of the words that hs_frame_parse hands out, in the frame's order. */
 enum {
-    HS_HEADER_SEQUENCE = 0, /* byte 1, Reserved in T/GCC 3007-2025: the message's number */
+    HS_HEADER_SEQUENCE = 0, /* the message's number: byte 1, Reserved in T/GCC 3007-2025 */
     HS_HEADER_INDEX = 1,
     HS_HEADER_ID = 2, /* Message ID */
     HS_HEADER_SENDER = 3,
     HS_HEADER_RECEIVER = 4,
     HS_HEADER_STATUS = 5, /* Output Size or Returned Status */
-    HS_HEADER_TOTAL = 6,  /* Data Total Size */
+    HS_HEADER_TOTAL = 6,  /* Data Total Size, the message's length */
     HS_HEADER_WORDS = 7,
 };
 
 /* Places of the carried words, which every frame of a message repeats, as
- * hs_reassembly_step hands them out. */
+ * hs_reassembly_step hands them out. Each is what the header's word of its name is. */
 enum {
     HS_WORD_SEQUENCE = 0,
     HS_WORD_ID = 1,
     HS_WORD_SENDER = 2,
     HS_WORD_STATUS = 3,
-    HS_WORD_TOTAL = 4, /* the message's length */
+    HS_WORD_TOTAL = 4,
     HS_WORDS = 5,
 };
 
@@ -193,7 +193,8 @@ uint32_t hs_frame_write(uint8_t sequence, uint32_t id, uint32_t sender, uint32_t
 
 /* Takes one frame for receiver us; its message grows in buffer. HS_DELIVERED: words
  * holds the message's five carried words, the last its Data Total Size, and the message
- * is as many bytes at the start of buffer. HS_MORE: words is unchanged. Both change only those bytes of buffer that the frame's data fills.
+ * is as many bytes at the start of buffer. HS_MORE: words is unchanged. Both change only
+ * those bytes of buffer that the frame's data fills.
  * Refusals 11, 1, 2, 3, 4, 5, 6, 7, 10, 8, 9: words and buffer are unchanged.
  *
  * state[0] is 0: fresh, and the other seven don't count, so zeroed memory is fresh.

@@ -38,7 +38,8 @@ static void must(uint32_t answer) {
 
 /* The deck computer writes the frames of a message, and the head takes all but the lost one. A
  * refusal is no reason to stop: nothing is handed up, and the state is ready for what follows. */
-static void transmit(uint8_t sequence, uint32_t id, const uint8_t *message, size_t length, size_t lost) {
+static void transmit(uint8_t sequence, uint32_t id, const uint8_t *message, size_t length,
+                     size_t lost) {
     size_t frames, frame_len;
     must(hs_frame_count(length, PIECE, &frames));
     printf("message %" PRIu32 ", %zu bytes in %zu frames\n", id, length, frames);

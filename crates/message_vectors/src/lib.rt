@@ -87,28 +87,26 @@ fn receive(what: &[u8], before: Receiver, frame: &[u8]) -> Receiver {
 }
 
 // A frame as it was written, cut or filled up with zeros to a length.
-fn send(what: &[u8], before: Receiver, total: usize, index: usize, length: usize) -> Receiver {
-    let e = envelope(0, RECEIVER, STATUS);
+fn send_as(
+    what: &[u8],
+    before: Receiver,
+    e: Envelope,
+    total: usize,
+    index: usize,
+    length: usize,
+) -> Receiver {
     let out = lay(e, total, index, Header::TYPE_VERSION);
     receive(what, before, le::head(&out, length))
+}
+
+fn send(what: &[u8], before: Receiver, total: usize, index: usize, length: usize) -> Receiver {
+    let e = envelope(0, RECEIVER, STATUS);
+    send_as(what, before, e, total, index, length)
 }
 
 // The frame with Index 1 of five bytes that differs in a word.
 fn send_other(what: &[u8], before: Receiver, byte_0: u8, receiver: u32, status: u32) -> Receiver {
     let out = lay(envelope(0, receiver, status), 5, 1, byte_0);
-    receive(what, before, le::head(&out, 26))
-}
-
-// A frame of 26 bytes, of the message with that sequence number.
-fn send_numbered(
-    what: &[u8],
-    before: Receiver,
-    sequence: u8,
-    total: usize,
-    index: usize,
-) -> Receiver {
-    let e = envelope(sequence, RECEIVER, STATUS);
-    let out = lay(e, total, index, Header::TYPE_VERSION);
     receive(what, before, le::head(&out, 26))
 }
 
@@ -133,13 +131,15 @@ fn run_open(fresh: Receiver) -> Receiver {
     send_other(b"index 1, word 0x00000000", other, right, RECEIVER, 0)
 }
 
-// Frames of which byte 1 differs: where the Index is the next one, and where it is not.
+// A message that is numbered, and frames of which byte 1 differs: the next Index, and one that is not.
 fn run_numbered(fresh: Receiver) -> Receiver {
-    let whole = send_numbered(b"index 0 of 2 bytes, sequence 255", fresh, 255, 2, 0);
-    let first = send_numbered(b"index 0, sequence 255", whole, 255, 5, 0);
-    let other = send_numbered(b"index 1, sequence 254", first, 254, 5, 1);
-    let again = send_numbered(b"index 0, sequence 255", other, 255, 5, 0);
-    send_numbered(b"index 2, sequence 254", again, 254, 5, 2)
+    let e = envelope(255, RECEIVER, STATUS);
+    let other = envelope(254, RECEIVER, STATUS);
+    let whole = send_as(b"index 0 of 2 bytes, sequence 255", fresh, e, 2, 0, 26);
+    let first = send_as(b"index 0, sequence 255", whole, e, 5, 0, 26);
+    let second = send_as(b"index 1, sequence 254", first, other, 5, 1, 26);
+    let again = send_as(b"index 0, sequence 255", second, e, 5, 0, 26);
+    send_as(b"index 2, sequence 254", again, other, 5, 2, 25)
 }
 
 // An open state for which no frame can have come.

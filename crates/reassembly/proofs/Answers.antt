@@ -1,14 +1,16 @@
 -- The laws of the definitions that make up a step: one for each answer, with what leads there.
 -- Assumes nothing.
 use Prim.Native.Nat.{ℕ, _+_, _-_, _≤_, _<_}
-use mathlib.Core.Bool.{true, false, not, _&&_}
-use mathlib.Core.Path.{_≡_, refl, _∙_}
+use mathlib.Core.Bool.{Bool, true, false, not, _&&_}
+use mathlib.Core.Path.{_≡_, refl, ap, _∙_}
 use mathlib.Core.List.{List}
 use borrow.Author.Tests.{lt-ltb, le-ltb, lt-leb, le-leb, eq-eqb, ne-eqb, leb-true, ltb-true}
-use lib.Dec.{leb, ltb}
-use lib.ListN.{length}
+use lib.Dec.{leb, ltb, eqb}
+use lib.ListN.{length, getD}
+use Rattle.le.specs.Compare.{same}
 use Rattle.le.proofs.Tests.{both}
-use Rattle.frame.specs.Layout.{messageMax}
+use Rattle.le.proofs.Comparing.{other-list}
+use Rattle.frame.specs.Layout.{messageMax, wordsOf}
 use Rattle.frame.specs.declared.Header.{Header}
 use Rattle.frame.specs.declared.Words.{Words}
 use Rattle.frame.specs.declared.read.Parsed.{Parsed}
@@ -60,7 +62,7 @@ module _ (s : State) (p : Progress) (room : ℕ) (is-open : s ≡ Open p) where
 
 -- what is known of a consistent open state
 pub record Consistent (p : Progress) (room : ℕ) : Type 0 where
-  pub some : 1 ≤ p .next
+  pub positive : 1 ≤ p .next
   pub order : p .next ≤ p .filled
   pub less : p .filled < p .words .total
   pub bounded : p .words .total ≤ messageMax
@@ -75,12 +77,26 @@ consistent-open p room e =
     let c = both (ltb (p .filled) total) _ (b .1) in
     let d = both (leb total messageMax) _ (c .1) in
     record {
-      some = leb-true 1 (p .next) (a .0);
+      positive = leb-true 1 (p .next) (a .0);
       order = leb-true (p .next) (p .filled) (b .0);
       less = ltb-true (p .filled) total (c .0);
       bounded = leb-true total messageMax (d .0);
       held = leb-true total room (d .1);
     }
+
+-- whether the carried words are the same: one that differs decides, or else the last
+module _ (v w : Words) where
+  pub word-differs : (i : ℕ) → (getD (wordsOf v) i 0 ≡ getD (wordsOf w) i 0 → ⊥) → sameWords v w ≡ false
+  word-differs i differ = other-list (wordsOf v) (wordsOf w) (λ e. differ (ap (λ (l : List ℕ). getD l i 0) e))
+
+  pub last-decides : v .sequence ≡ w .sequence → v .id ≡ w .id → v .sender ≡ w .sender → v .status ≡ w .status
+      → sameWords v w ≡ eqb (v .total) (w .total)
+  unfolding same
+  last-decides a b c d = rw (eq-eqb _ _ a, eq-eqb _ _ b, eq-eqb _ _ c, eq-eqb _ _ d) (alone (eqb (v .total) (w .total)))
+    where
+      alone : (t : Bool) → t && true ≡ t
+      alone true = refl
+      alone false = refl
 
 -- 8, 9, and data that is taken
 module _ (w : Words) (i filled : ℕ) (p b : List ℕ) where

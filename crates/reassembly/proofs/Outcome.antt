@@ -1,5 +1,5 @@
 -- What one step can come to, from any state, on every buffer of a length: from this follow `stays-consistent`, `refusal-leaves`, `refused-other-words`,
--- `step-agrees`, and what the exported step leaves.
+-- `step-agrees`, and what the exported step leaves. And `other-words-refused`, by the laws of the step.
 -- Assumes nothing.
 use Prim.Native.Nat.{ℕ, suc, _+_, _-_, _≤_, _<_}
 use mathlib.Core.Bool.{Bool, true, false}
@@ -11,8 +11,8 @@ use borrow.Author.Tests.{ltb-true, ltb-false, eqb-true, eqb-false, eq-eqb, ne-eq
 use lib.Dec.{ltb, eqb}
 use lib.ListN.{length, take}
 use Rattle.le.proofs.Tests.{apart, never}
-use Rattle.le.proofs.Comparing.{same-self}
-use Rattle.frame.specs.Layout.{messageMax, wordsOf}
+use Rattle.le.proofs.Comparing.{equal-same, other-list}
+use Rattle.frame.specs.Layout.{messageMax, wordsOf, wordsAt}
 use Rattle.frame.specs.Reading as Reading
 use Rattle.frame.specs.Reading.{parsed, dataOf}
 use Rattle.frame.specs.declared.Header.{Header}
@@ -32,7 +32,7 @@ use Rattle.reassembly.specs.declared.Reason.the-variants.{Unread, Nothin
 use Rattle.reassembly.specs.declared.Verdict.{Verdict}
 use Rattle.reassembly.specs.declared.Verdict.the-variants.{Refused}
 use Rattle.reassembly.proofs.Answers.{fresh, by-room, consistent-open, lacking, excess, data-taken, whole, not-whole, over-limit, over-buffer, begins, none-open, other-index, other-words, goes-on, unread-frame, index-zero, index-more, bad-state, good-state}
-use Rattle.reassembly.proofs.Steps.{words-equal, length-landed, start-landed}
+use Rattle.reassembly.proofs.Steps.{length-landed, start-landed}
 
 -- where the words, the Index and how many bytes are filled come from: a frame that begins a message, or what is open
 pub data Source (us : ℕ) (f : List ℕ) : State → Words → ℕ → ℕ → Type 0 where
@@ -115,10 +115,6 @@ module _ (us : ℕ) (s : State) (room : ℕ) (f : List ℕ) where
       by-limit true e = refuses MessageLong tt (λ b len. steps b len ∙ over-limit (h .words) p b (ltb-true messageMax total e))
       by-limit false e = by-buffer (ltb-false messageMax total e) _ refl
 
--- words whose lists differ are not equal
-differing : (v w : Words) → sameWords v w ≡ false → v ≡ w → ⊥
-differing v w e q = never (sym (rw (← q) (same-self (wordsOf v))) ∙ e)
-
 -- 5, 6, 7, and a message that goes on
 proceeding : (us : ℕ) (s : State) (room : ℕ) (f : List ℕ) (h : Header) → parsed us f ≡ Parsed.Header h → consistent s room ≡ true
     → Steps us s room f (proceed h (dataOf f) s) → Outcome us s room f
@@ -131,17 +127,11 @@ proceeding us (Open q) room f h read ok steps = by-index (isNext h q) refl
         accepting us (Open q) room f (q .words) (q .next) (q .filled) (continued q) (known .order) (omega (arith, known .less)) (known .bounded) (known .held)
         (λ b len. steps b len ∙ goes-on h (dataOf f) (Open q) b q refl i e)
     by-words i false e =
-        let cause : WordsDiffer us (Open q) room f =
-        record {
-          header = h;
-          progress = q;
-          reads = read;
-          state-is = refl;
-          sound = ok;
-          next = eqb-true (h .index) (q .next) i;
-          differ = differing (h .words) (q .words) e;
-        } in
-        refuses OtherWords cause (λ b len. steps b len ∙ other-words h (dataOf f) (Open q) b q refl i e)
+        let differ : h .words ≡ q .words → ⊥ = λ eq. never (sym (equal-same _ _ (ap wordsOf eq)) ∙ e) in
+        let next = eqb-true (h .index) (q .next) i in
+        refuses OtherWords
+        (record { header = h; progress = q; reads = read; state-is = refl; is-consistent = ok; next = next; differ = differ })
+        (λ b len. steps b len ∙ other-words h (dataOf f) (Open q) b q refl i e)
 
     by-index : (next : Bool) → isNext h q ≡ next → Outcome us (Open q) room f
     by-index true e = by-words e _ refl
@@ -225,20 +215,13 @@ refusal-leaves us s b f reason q = by (outcome us s (length b) f)
 
 pub other-words-refused : OtherWordsRefused
 other-words-refused us s b f d =
-    let known = consistent-open q (length b) (rw (← d .state-is) (d .sound)) in
-    good-state (parsed us f) (dataOf f) s b (d .sound)
-    ∙ index-more (parsed us f) (dataOf f) s b h (d .reads) (ne-eqb (h .index) 0 (λ z. omega (arith, d .next)))
-    ∙ other-words h (dataOf f) s b q (d .state-is) (eq-eqb (h .index) (q .next) (d .next)) (by (sameWords (h .words) (q .words)) refl)
-  where
-    h : Header
-    h = d .header
-
-    q : Progress
-    q = d .progress
-
-    by : (same : Bool) → sameWords (h .words) (q .words) ≡ same → same ≡ false
-    by true e = absurd (d .differ (sym (words-equal (h .words) (q .words) e)))
-    by false e = refl
+    let h = d .header in
+    let q = d .progress in
+    let known = consistent-open q (length b) (rw (← d .state-is) (d .is-consistent)) in
+    let differ = other-list (wordsOf (h .words)) (wordsOf (q .words)) (λ e. d .differ (ap (wordsAt 0) e)) in
+    good-state (parsed us f) (dataOf f) s b (d .is-consistent)
+    ∙ index-more (parsed us f) (dataOf f) s b h (d .reads) (ne-eqb (h .index) 0 (λ z. omega (arith, known .positive, d .next)))
+    ∙ other-words h (dataOf f) s b q (d .state-is) (eq-eqb (h .index) (q .next) (d .next)) differ
 
 pub refused-other-words : RefusedOtherWords
 refused-other-words us s b f q = by (outcome us s (length b) f)

@@ -94,7 +94,7 @@ in-order h p b filled =
     goes-on h p _ b (record { words = h .words; next = h .index; filled = filled }) refl (eq-eqb (h .index) (h .index) refl) (same-self (wordsOf (h .words)))
 
 -- words whose lists are the same are equal
-pub words-equal : (v w : Words) → sameWords v w ≡ true → w ≡ v
+words-equal : (v w : Words) → sameWords v w ≡ true → w ≡ v
 words-equal v w e = ap (wordsAt 0) (sym (same-true (wordsOf v) (wordsOf w) e))
 
 -- off the track of a message with these words, at Index i: nothing is open, or what is open has other words or waits for an Index below i

@@ -41,7 +41,7 @@ use Rattle.reassembly.specs.declared.Verdict.the-variants.{Refused}
 --                             last one left them." `stepOf` is what `reassembly::step` is proved to answer and to leave
 --     ≡ expected              "Then, for every such list of calls, refused ones included, what is handed up is exactly the messages that lost no frame, each
 --                             once, in order, with bytes and carried words as sent.": both lists have one entry a call
---     words                   that `us` and the messages' words are of 32 bits is what each `u32` is
+--     words                   that a message's sequence number is a byte, and its other words and `us` are of 32 bits, is what each `u8` and each `u32` is
 abbrev pub Demand3 : Type 0
 Demand3 =
     (us : ℕ) (buffer : List ℕ) (traffic : Traffic)
@@ -168,13 +168,13 @@ RefusalLeaves =
     × (stepOf us state buffer frame .buffer ≡ buffer)
 
 -- 7: "Index is the next one, a carried word differs". The frame is read, the state is consistent and open, the Index is its next one, and the five carried
--- words are not all the same. (11, 1 to 4 and 6 are not due then, nor is 10: the next Index is not 0.)
+-- words are not all the same. (Then none of 11 and 1 to 6 is due, and 10, 8 and 9 come after 7.)
 pub record WordsDiffer (us : ℕ) (state : State) (room : ℕ) (frame : List ℕ) : Type 0 where
   pub header : Header
   pub progress : Progress
   pub reads : parsed us frame ≡ Parsed.Header header
   pub state-is : state ≡ Open progress
-  pub sound : consistent state room ≡ true
+  pub is-consistent : consistent state room ≡ true
   pub next : header .index ≡ progress .next
   pub differ : header .words ≡ progress .words → ⊥
 
@@ -185,7 +185,7 @@ OtherWordsRefused =
     → WordsDiffer us state (length buffer) frame
     → stepOf us state buffer frame ≡ refused OtherWords state buffer
 
--- `refused-other-words`. where 7 is given they differ.
+-- `refused-other-words`. where 7 is given, all of this holds.
 abbrev pub RefusedOtherWords : Type 0
 RefusedOtherWords =
     (us : ℕ) (state : State) (buffer frame : List ℕ)

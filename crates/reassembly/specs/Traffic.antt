@@ -52,7 +52,7 @@ PutIn us f =
 abbrev pub envelopeFor : ℕ → Message → Envelope
 envelopeFor us m = record { sequence = m .sequence; id = m .id; sender = m .sender; status = m .status; receiver = us }
 
--- a message "of at most 4,096 bytes and no longer than that buffer", its words as wide as a frame has them, "framed by the rules", and what was put in between
+-- a message "of at most 4,096 bytes and no longer than that buffer", its words no wider than a frame has them, "framed by the rules", and what was put in between
 pub record Framed (us room : ℕ) (t : Transmission) : Type 0 where
   pub words : Fits (envelopeFor us (t .message))
   pub bounded : length (t .message .bytes) ≤ messageMax

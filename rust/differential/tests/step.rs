@@ -245,13 +245,13 @@ fn spoil_state(random: &mut Random, case: &mut Case) {
     match random.within(0..=9) {
         0 => state[KIND] = random.pick(&[2, 3, 256, 257, 1 << 32, (1 << 32) + 1, u64::MAX]),
         1 => state[random.within(SEQUENCE + 1..=TOTAL)] += 1 << random.within(32..=63),
-        9 => state[SEQUENCE] += 1 << random.within(8..=63),
-        2 => state[NEXT] = 0,
-        3 => state[NEXT] = state[FILLED] + 1,
-        4 => state[FILLED] = state[TOTAL],
-        5 => state[random.pick(&[NEXT, FILLED])] += 1 << random.within(16..=63),
-        6 => state[TOTAL] = random.pick(&[0, 1]),
-        7 => {
+        2 => state[SEQUENCE] += 1 << random.within(8..=63),
+        3 => state[NEXT] = 0,
+        4 => state[NEXT] = state[FILLED] + 1,
+        5 => state[FILLED] = state[TOTAL],
+        6 => state[random.pick(&[NEXT, FILLED])] += 1 << random.within(16..=63),
+        7 => state[TOTAL] = random.pick(&[0, 1]),
+        8 => {
             state[TOTAL] = random.pick(&[4097, 5000, (1 << 32) - 1]);
             *buffer = BUFFER_MAX;
         }
@@ -313,10 +313,10 @@ fn all_small_sizes() {
 
 fn check_small_frames(random: &mut Random, state: Block, buffer: usize, index: usize) -> usize {
     let mut compared = 0;
-    for total in 0..=5 {
+    for (total, sequence) in (0..=5).flat_map(|total| [7, 8].map(|sequence| (total, sequence))) {
         for data in 0..=4 {
             let mut header = header(random, index, total);
-            header.sequence = random.pick(&[7, 7, 8]);
+            header.sequence = sequence;
             [header.id, header.sender, header.status] = [1, 2, 3];
             let case = Case {
                 state,
@@ -390,9 +390,8 @@ fn check_limits(random: &mut Random, [total, filled, next, buffer]: [u64; 4]) ->
     2
 }
 
-/// Two sequence numbers, where no other word differs: 7 where the Index is the next one and they are
-/// not the same, 6 where it is not. And numbers of the state that are no byte, though their lowest
-/// byte is the frame's: 11.
+/// Two sequence numbers, where no other word differs: at the next Index 7 exactly where they are not
+/// the same, at another 6, and Index 0 begins anew.
 #[test]
 fn every_pair_of_sequence_numbers() {
     let mut random = Random::new(64);
@@ -407,22 +406,36 @@ fn every_pair_of_sequence_numbers() {
         } else {
             Verdict::Refused(7)
         };
-        assert_eq!(check_one_byte(&mut random, state, header), next);
-        header.index = random.pick(&[1, 3, 4]);
-        let late = check_one_byte(&mut random, state, header);
-        assert_eq!(late, Verdict::Refused(6));
-        compared += 2;
+        let elsewhere = random.pick(&[1, 3, 4]);
+        let expected = [
+            (2, next),
+            (elsewhere, Verdict::Refused(6)),
+            (0, Verdict::More),
+        ];
+        for (index, verdict) in expected {
+            header.index = index;
+            assert_eq!(check_one_byte(&mut random, state, header), verdict);
+            compared += 1;
+        }
     }
+    report("step, every pair of sequence numbers", compared);
+}
+
+/// A state whose sequence number is no byte, though its lowest byte is the frame's.
+#[test]
+fn wide_sequence_numbers() {
+    let mut random = Random::new(65);
+    let mut compared = 0;
     for (sequence, bit) in (0..=255).flat_map(|a| (8..=63).map(move |bit| (a, bit))) {
         let mut header = header(&mut random, 2, 5);
         header.sequence = sequence;
         let mut state = open(&header, 2, 3);
         state[SEQUENCE] += 1 << bit;
-        let wide = check_one_byte(&mut random, state, header);
-        assert_eq!(wide, Verdict::Refused(11));
+        let verdict = check_one_byte(&mut random, state, header);
+        assert_eq!(verdict, Verdict::Refused(11));
         compared += 1;
     }
-    report("step, every pair of sequence numbers", compared);
+    report("step, wide sequence numbers", compared);
 }
 
 /// A frame with one byte of data, and a buffer of five.
@@ -447,6 +460,7 @@ fn garbage() {
         let total = random.usize() >> random.within(32..=63);
         let mut state = [0; 8].map(|_| random.u64() >> random.within(0..=63));
         state[KIND] = random.pick(&[0, 1, 1, 2, state[KIND]]);
+        state[SEQUENCE] &= random.pick(&[0xFF, u64::MAX]); // often a byte
         let case = Case {
             state,
             buffer: random.within(0..=BUFFER_MAX),
