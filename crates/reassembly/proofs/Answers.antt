@@ -2,15 +2,15 @@
 -- Assumes nothing.
 use Prim.Native.Nat.{ℕ, _+_, _-_, _≤_, _<_}
 use mathlib.Core.Bool.{Bool, true, false, not, _&&_}
-use mathlib.Core.Path.{_≡_, refl, ap, _∙_}
+use mathlib.Core.Path.{_≡_, refl, sym, ap, _∙_}
 use mathlib.Core.List.{List}
 use borrow.Author.Tests.{lt-ltb, le-ltb, lt-leb, le-leb, eq-eqb, ne-eqb, leb-true, ltb-true}
 use lib.Dec.{leb, ltb, eqb}
 use lib.ListN.{length, getD}
 use Rattle.le.specs.Compare.{same}
 use Rattle.le.proofs.Tests.{both}
-use Rattle.le.proofs.Comparing.{other-list}
-use Rattle.frame.specs.Layout.{messageMax, wordsOf}
+use Rattle.le.proofs.Comparing.{same-true, other-list}
+use Rattle.frame.specs.Layout.{messageMax, wordsOf, wordsAt}
 use Rattle.frame.specs.declared.Header.{Header}
 use Rattle.frame.specs.declared.Words.{Words}
 use Rattle.frame.specs.declared.read.Parsed.{Parsed}
@@ -84,8 +84,11 @@ consistent-open p room e =
       held = leb-true total room (d .1);
     }
 
--- whether the carried words are the same: one that differs decides, or else the last
+-- whether the carried words are the same: one that differs decides, or else the last; where they are, they are equal
 module _ (v w : Words) where
+  pub words-equal : sameWords v w ≡ true → w ≡ v
+  words-equal e = ap (wordsAt 0) (sym (same-true (wordsOf v) (wordsOf w) e))
+
   pub word-differs : (i : ℕ) → (getD (wordsOf v) i 0 ≡ getD (wordsOf w) i 0 → ⊥) → sameWords v w ≡ false
   word-differs i differ = other-list (wordsOf v) (wordsOf w) (λ e. differ (ap (λ (l : List ℕ). getD l i 0) e))
 
@@ -152,6 +155,10 @@ module _ (h : Header) (p : List ℕ) (s : State) (b : List ℕ) where
     pub goes-on : isNext h q ≡ true → sameWords (h .words) (q .words) ≡ true → proceed h p s b ≡ accept (q .words) (q .next) (q .filled) p b
     unfolding proceed
     goes-on i w = rw (is-open, i, w)
+
+    -- with the frame's words, which are the same
+    pub goes-on-so : isNext h q ≡ true → sameWords (h .words) (q .words) ≡ true → proceed h p s b ≡ accept (h .words) (q .next) (q .filled) p b
+    goes-on-so i w = goes-on i w ∙ ap (λ (v : Words). accept v (q .next) (q .filled) p b) (words-equal (h .words) (q .words) w)
 
 -- 1 to 4, by the Index, and 11 before all
 module _ (r : Parsed) (p : List ℕ) (s : State) (b : List ℕ) where

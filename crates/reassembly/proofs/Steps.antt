@@ -2,7 +2,7 @@
 -- Assumes nothing.
 use Prim.Native.Nat.{ℕ, suc, _+_, _≤_, _<_}
 use mathlib.Core.Bool.{Bool, true, false, cond, not, _||_}
-use mathlib.Core.Path.{_≡_, refl, sym, ap, ap₂, _∙_}
+use mathlib.Core.Path.{_≡_, refl, ap₂, _∙_}
 use mathlib.Core.List.{List, _++_, append-assoc}
 use borrow.Author.Tests.{eq-eqb, ne-eqb, eqb-true}
 use native.Mathlib.Omega.{arith}
@@ -11,8 +11,8 @@ use lib.ListN.{length, take, drop, length-append, length-take, length-drop}
 use lib.Seq.{take-at, drop-at}
 use Rattle.le.specs.Word.{word}
 use Rattle.le.proofs.Tests.{apart}
-use Rattle.le.proofs.Comparing.{same-self, same-true}
-use Rattle.frame.specs.Layout.{headerSize, frameMax, pieceMax, messageMax, typeVersion, wordsOf, wordsAt, headerBytes, headerOf, headerFor, frameOf}
+use Rattle.le.proofs.Comparing.{same-self}
+use Rattle.frame.specs.Layout.{headerSize, frameMax, pieceMax, messageMax, typeVersion, wordsOf, headerBytes, headerOf, headerFor, frameOf}
 use Rattle.frame.specs.Reading.{parsed, dataOf}
 use Rattle.frame.specs.Statements.{Fits}
 use Rattle.frame.specs.declared.Envelope.{Envelope}
@@ -31,7 +31,7 @@ use Rattle.reassembly.specs.declared.State.the-variants.{Fresh, Open}
 use Rattle.reassembly.specs.declared.Reason as R
 use Rattle.reassembly.specs.declared.Reason.the-variants.{Unread, NothingOpen, OutOfOrder, OtherWords}
 use Rattle.reassembly.specs.declared.Verdict.the-variants.{Refused}
-use Rattle.reassembly.proofs.Answers.{data-taken, begins, none-open, other-index, other-words, goes-on, unread-frame, index-zero, index-more, good-state}
+use Rattle.reassembly.proofs.Answers.{words-equal, data-taken, begins, none-open, other-index, other-words, goes-on, unread-frame, index-zero, index-more, good-state}
 
 -- a frame of which a condition 1 to 4 holds does not parse, and of each that does not one holds
 module _ (us : ℕ) (f : List ℕ) where
@@ -92,10 +92,6 @@ module _ (us : ℕ) (s : State) (b : List ℕ) (ok : consistent s (length b) ≡
 pub in-order : (h : Header) (p b : List ℕ) (filled : ℕ) → proceed h p (waiting (h .words) (h .index) filled) b ≡ accept (h .words) (h .index) filled p b
 in-order h p b filled =
     goes-on h p _ b (record { words = h .words; next = h .index; filled = filled }) refl (eq-eqb (h .index) (h .index) refl) (same-self (wordsOf (h .words)))
-
--- words whose lists are the same are equal
-words-equal : (v w : Words) → sameWords v w ≡ true → w ≡ v
-words-equal v w e = ap (wordsAt 0) (sym (same-true (wordsOf v) (wordsOf w) e))
 
 -- off the track of a message with these words, at Index i: nothing is open, or what is open has other words or waits for an Index below i
 abbrev pub Off : Words → ℕ → State → Type 0

@@ -221,11 +221,10 @@ fn continue_message(h: Header, piece: &[u8], state: State, buf: &mut [u8]) -> An
     if h.index as usize != open.next {
         return refuse(Reason::OutOfOrder, state);
     }
-    let words = open.words;
-    if !same_words(h.words, words) {
+    if !same_words(h.words, open.words) {
         return refuse(Reason::OtherWords, state);
     }
-    accept_data(words, open.next, open.filled, piece, buf)
+    accept_data(h.words, open.next, open.filled, piece, buf)
 }
 
 // Why a frame did not parse. It is called only for one that did not; `let .. else` does not say so.
