@@ -1,7 +1,10 @@
 /* Hoursquall: UBIOS message frames, their reassembly into messages, the notice ring,
  * UBIOS tables, SFI tables, the checksums of both, and the frame log.
  *
- * Link target/staticlib/libhoursquall.a (x86-64, System V calling convention).
+ * Link target/staticlib/libhoursquall.a (x86-64, System V calling convention). No release
+ * is out yet: what is declared here may change, as it did when byte 1 of a frame became a
+ * carried word, so compile a caller anew, and keep no state of the reassembly from one
+ * library to the next.
  *
  * What every caller owes: a pointer is not null, also with a length of 0; it is
  * aligned, and points to as many values as its length or its array type says,
