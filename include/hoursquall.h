@@ -57,7 +57,8 @@ enum {
 };
 
 /* Places of the carried words, which every frame of a message repeats, as
- * hs_reassembly_step hands them out. Each is what the header's word of its name is. */
+ * hs_reassembly_step hands them out. Each means what the word at the HS_HEADER_ place of
+ * the same name means. */
 enum {
     HS_WORD_SEQUENCE = 0,
     HS_WORD_ID = 1,

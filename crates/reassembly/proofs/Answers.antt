@@ -1,7 +1,7 @@
 -- The laws of the definitions that make up a step: one for each answer, with what leads there.
 -- Assumes nothing.
 use Prim.Native.Nat.{ℕ, _+_, _-_, _≤_, _<_}
-use mathlib.Core.Bool.{Bool, true, false, not, _&&_}
+use mathlib.Core.Bool.{Bool, true, false, _&&_}
 use mathlib.Core.Path.{_≡_, refl, sym, ap, _∙_}
 use mathlib.Core.List.{List}
 use borrow.Author.Tests.{lt-ltb, le-ltb, lt-leb, le-leb, eq-eqb, ne-eqb, leb-true, ltb-true}
@@ -157,8 +157,8 @@ module _ (h : Header) (p : List ℕ) (s : State) (b : List ℕ) where
     goes-on i w = rw (is-open, i, w)
 
     -- with the frame's words, which are the same
-    pub goes-on-so : isNext h q ≡ true → sameWords (h .words) (q .words) ≡ true → proceed h p s b ≡ accept (h .words) (q .next) (q .filled) p b
-    goes-on-so i w = goes-on i w ∙ ap (λ (v : Words). accept v (q .next) (q .filled) p b) (words-equal (h .words) (q .words) w)
+    pub goes-on-with-frame : isNext h q ≡ true → sameWords (h .words) (q .words) ≡ true → proceed h p s b ≡ accept (h .words) (q .next) (q .filled) p b
+    goes-on-with-frame i w = goes-on i w ∙ ap (λ (v : Words). accept v (q .next) (q .filled) p b) (words-equal (h .words) (q .words) w)
 
 -- 1 to 4, by the Index, and 11 before all
 module _ (r : Parsed) (p : List ℕ) (s : State) (b : List ℕ) where

@@ -54,7 +54,7 @@ Cause us s room f TooMuchData = Unit {0}
 Cause us s room f MessageLong = Unit {0}
 Cause us s room f BadState = consistent s room ≡ false
 
--- a refusal, with its cause; a message; or an open state that is consistent again
+-- a refusal, with the cause of 7 and of 11; a message; or an open state that is consistent again
 pub data Outcome (us : ℕ) (s : State) (room : ℕ) (f : List ℕ) : Type 0 where
   refuses : (reason : Reason) → Cause us s room f reason → Steps us s room f (refused reason s) → Outcome us s room f
   delivers : (w : Words) (i filled : ℕ) → Source us f s w i filled → filled + length (dataOf f) ≡ w .total → w .total ≤ room

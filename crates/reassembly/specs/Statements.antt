@@ -167,7 +167,7 @@ RefusalLeaves =
     × (5 ≤ numberOf reason → stepOf us state buffer frame .answer .state ≡ Fresh)
     × (stepOf us state buffer frame .buffer ≡ buffer)
 
--- 7: "Index is the next one, a carried word differs". The frame is read, the state is consistent and open, the Index is its next one, and the five carried
+-- All that 7 asks for, "Index is the next one, a carried word differs": the frame is read, the state is consistent and open, the Index is its next one, and the five carried
 -- words are not all the same. (Then none of 11 and 1 to 6 is due, and 10, 8 and 9 come after 7.)
 pub record WordsDiffer (us : ℕ) (state : State) (room : ℕ) (frame : List ℕ) : Type 0 where
   pub header : Header
@@ -178,14 +178,14 @@ pub record WordsDiffer (us : ℕ) (state : State) (room : ℕ) (frame : List ℕ
   pub next : header .index ≡ progress .next
   pub differ : header .words ≡ progress .words → ⊥
 
--- `other-words-refused`. There 7 is given, and nowhere else:
+-- `other-words-refused`. Where this holds, 7 is given,
 abbrev pub OtherWordsRefused : Type 0
 OtherWordsRefused =
     (us : ℕ) (state : State) (buffer frame : List ℕ)
     → WordsDiffer us state (length buffer) frame
     → stepOf us state buffer frame ≡ refused OtherWords state buffer
 
--- `refused-other-words`. where 7 is given, all of this holds.
+-- `refused-other-words`. and nowhere else: where 7 is given, it holds.
 abbrev pub RefusedOtherWords : Type 0
 RefusedOtherWords =
     (us : ℕ) (state : State) (buffer frame : List ℕ)

@@ -8,7 +8,7 @@ use lib.ListN.{length}
 use Rattle.frame.specs.declared.Words.{Words}
 use Rattle.reassembly.specs.Step.{consistent}
 use Rattle.reassembly.specs.declared.State.{State}
-use Rattle.reassembly.proofs.Answers.{as-in, consistent-open, words-equal, none-open, other-index, other-words, goes-on-so}
+use Rattle.reassembly.proofs.Answers.{as-in, consistent-open, words-equal, none-open, other-index, other-words, goes-on-with-frame}
 use borrow.Author.Needs.{needs}
 use Rattle.reassembly.proofs.continue_message.Statement.{statement}
 use Rattle.reassembly.proofs.continue_message.Tie as tie
@@ -44,7 +44,7 @@ returns-4 c =
     let next = eq-eqb _ _ (c .before .before .before .before .before .before .if1 .left) in
     let same = sym (c .before .before .before .before .before .same-words .ensures) ∙ not-false _ (c .before .before .before .before .if2 .left) in
     let accepts = c .before .before .accept-data .ensures in
-    as-in _ _ _ _ (goes-on-so _ _ _ _ _ is-open next same) (accepts .0) (accepts .1)
+    as-in _ _ _ _ (goes-on-with-frame _ _ _ _ _ is-open next same) (accepts .0) (accepts .1)
 
 pub continue-message-spec : {M : Type 1} → statement M
 continue-message-spec =
