@@ -4,7 +4,7 @@
  * Link target/staticlib/libhoursquall.a (x86-64, System V calling convention). No release
  * is out yet: what is declared here may change, as it did when byte 1 of a frame became a
  * carried word, so compile a caller anew, and keep no state of the reassembly from one
- * library to the next.
+ * build of the library to the next.
  *
  * What every caller owes: a pointer is not null, also with a length of 0; it is
  * aligned, and points to as many values as its length or its array type says,
@@ -187,26 +187,27 @@ uint32_t hs_frame_count(size_t length, size_t piece_size, size_t *frames);
 
 /* Writes the frame index, counted from 0 and of any value, of a message whose
  * pieces all have piece_size bytes, but for the last, which may be shorter. sequence is
- * the message's number, and any will do. HS_OK: the frame is the first *frame_len bytes
- * of out, and out is unchanged behind them. Refusals 10, 12, 13, 14: out and *frame_len
- * are unchanged. */
+ * the message's number, of any value; all frames of a message have the same. HS_OK: the
+ * frame is the first *frame_len bytes of out, and out is unchanged behind them. Refusals
+ * 10, 12, 13, 14: out and *frame_len are unchanged. */
 uint32_t hs_frame_write(uint8_t sequence, uint32_t id, uint32_t sender, uint32_t status,
                         uint32_t receiver, const uint8_t *message,
                         size_t message_len, size_t piece_size, size_t index,
                         uint8_t *out, size_t out_len, size_t *frame_len);
 
 /* Takes one frame for receiver us; its message grows in buffer. HS_DELIVERED: words
- * holds the message's five carried words, the last its Data Total Size, and the message
- * is as many bytes at the start of buffer. HS_MORE: words is unchanged. Both change only
+ * holds the five carried words, at the HS_WORD_ places, and the message is the first
+ * words[HS_WORD_TOTAL] bytes of buffer. HS_MORE: words is unchanged. Both change only
  * those bytes of buffer that the frame's data fills.
  * Refusals 11, 1, 2, 3, 4, 5, 6, 7, 10, 8, 9: words and buffer are unchanged.
  *
  * state[0] is 0: fresh, and the other seven don't count, so zeroed memory is fresh.
- * state[0] is 1: open, with the five words as above, the next Index, and the number of
- * bytes filled. It is consistent if the first word is below 2^8 and the others below
- * 2^32, 1 <= next <= filled < Data Total Size, and that is at most HS_MESSAGE_MAX and
- * buffer_len. Any other state gets 11. The call leaves the state for the next one: with
- * 1 to 4 its eight numbers are unchanged, else it is fresh, written as eight zeros,
+ * state[0] is 1: open. state[1] to state[5] are the carried words, in the order of their
+ * places, state[6] is the next Index, and state[7] the number of bytes filled. It is
+ * consistent if state[1] is below 2^8, state[2] to state[5] are below 2^32, 1 <= state[6]
+ * <= state[7] < state[5], and state[5], the Data Total Size, is at most HS_MESSAGE_MAX
+ * and buffer_len. Any other state gets 11. The call leaves the state for the next one:
+ * with 1 to 4 its eight numbers are unchanged, else it is fresh, written as eight zeros,
  * unless more is wanted. */
 uint32_t hs_reassembly_step(uint64_t state[HS_STATE_NUMBERS], const uint8_t *frame,
                             size_t frame_len, uint32_t us, uint8_t *buffer,

@@ -36,6 +36,14 @@ static void must(uint32_t answer) {
     }
 }
 
+/* What the head was just handed up: the carried words of a message, and its bytes. */
+static void say_message(const uint32_t words[HS_WORDS]) {
+    printf("delivered, sequence %" PRIu32 ", message %" PRIu32 ", sender %" PRIu32
+           ", status %" PRIu32 ": %.*s\n",
+           words[HS_WORD_SEQUENCE], words[HS_WORD_ID], words[HS_WORD_SENDER],
+           words[HS_WORD_STATUS], (int)words[HS_WORD_TOTAL], (const char *)buffer);
+}
+
 /* The deck computer writes the frames of a message, and the head takes all but the lost one. A
  * refusal is no reason to stop: nothing is handed up, and the state is ready for what follows. */
 static void transmit(uint8_t sequence, uint32_t id, const uint8_t *message, size_t length,
@@ -55,7 +63,7 @@ static void transmit(uint8_t sequence, uint32_t id, const uint8_t *message, size
         if (answer == HS_MORE)
             printf("more wanted\n");
         else if (answer == HS_DELIVERED)
-            printf("delivered, %.*s\n", (int)words[HS_WORD_TOTAL], (const char *)buffer);
+            say_message(words);
         else
             printf("refused with %" PRIu32 "\n", answer);
     }
@@ -69,8 +77,8 @@ int main(void) {
     const uint8_t *speed = memory + body[1];
     printf("slot %zu, %s: %.*s\n", body[0], name, (int)body[2], (const char *)speed);
 
-    transmit(0, 1, speed, body[2], SIZE_MAX); /* none is lost */
-    transmit(1, 2, speed, body[2], 1);
+    transmit(7, 1, speed, body[2], SIZE_MAX); /* none is lost */
+    transmit(8, 2, speed, body[2], 1);
 
     uint8_t ring[64], data[HS_NOTICE_MAX];
     size_t data_len, positions[HS_POSITIONS] = {0, 0}; /* equal positions: the ring is empty */

@@ -1,9 +1,9 @@
 -- The theorems of `specs/Statements.antt` on the numbers that C keeps between calls.
 --     state-crosses      a state survives the way through the block
 --     positions-cross    so do a ring's positions
---     state-fits         the words of the state that a block is are no wider than a frame has them
---     read-fits          so are those of a frame that is read
---     step-crosses       so are those of the state after a step, and what C sees of the step is what it hands up
+--     state-fits         a block reads as a state whose words fit in a frame
+--     read-fits          so do the words of a frame that is read
+--     step-crosses       and those of the state after a step, and what C sees of the step is what it hands up
 --     refusal-leaves-lent    what a refusal leaves of what was lent
 --     block-crosses      the block that a call leaves is the state after it
 --     run-crosses        so a run over blocks is a run over states

@@ -25,7 +25,7 @@ use Rattle.notice.specs.Statements.{Capacity}
 use Rattle.hoursquall.specs.Reassembly.{stateOf, blockOf, Lent, lending, answered, left}
 use Rattle.hoursquall.specs.Notice.{positionsOf, positionsAfterPost, positionsAfterTake, Kept, RingCall, Told, ofPost, ofTake, toldBy, keptAfter}
 
--- as `Fits` of `frame`, of carried words: the sequence number is a byte, and the others, the total too, are of 32 bits
+-- carried words that fit in a frame: the sequence number is a byte, and the others, the total too, are of 32 bits (`Fits` of `frame` says it of an envelope)
 pub record WordsFit (w : Words) : Type 0 where
   pub sequence : w .sequence < 2 ^ 8
   pub id : w .id < 2 ^ 32

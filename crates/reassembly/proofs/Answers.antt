@@ -84,7 +84,7 @@ consistent-open p room e =
       held = leb-true total room (d .1);
     }
 
--- whether the carried words are the same: one that differs decides, or else the last; where they are, they are equal
+-- whether the carried words are the same: one that differs decides, or else the last; where the test holds, the records are equal
 module _ (v w : Words) where
   pub words-equal : sameWords v w ≡ true → w ≡ v
   words-equal e = ap (wordsAt 0) (sym (same-true (wordsOf v) (wordsOf w) e))

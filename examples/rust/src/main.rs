@@ -3,7 +3,7 @@
 //!
 //! After `rt staticlib hoursquall`, `cargo run` in this package builds and runs it.
 
-use hoursquall::{Envelope, Notice, Positions, Reassembly, Refusal, Region, Verdict};
+use hoursquall::{Envelope, Notice, Positions, Reassembly, Refusal, Region, Verdict, Words};
 use hoursquall::{FRAME_MAX, MESSAGE_MAX, NOTICE_MAX};
 
 const HEAD: u32 = 10;
@@ -21,6 +21,20 @@ const MEMORY: &[u8] = b"\
     sound_speed\0\0\0\0\0\
     \x28\0\0\0\x01\0\0\0\0\0\0\0\x4A\x2A\x4B\x76\
     1487 m/s";
+
+/// What the head was just handed up: the carried words of a message, and its bytes.
+fn say_message(words: &Words, buffer: &[u8]) {
+    let Words {
+        sequence,
+        id,
+        sender,
+        status,
+        total,
+    } = *words;
+    let bytes = buffer[..total as usize].escape_ascii();
+    print!("delivered, sequence {sequence}, message {id}, sender {sender}, ");
+    println!("status {status}: {bytes}");
+}
 
 /// The deck computer writes the frames of a message, and the head takes all but the lost one. A
 /// refusal is no reason to stop: nothing is handed up, and the state is ready for what follows.
@@ -50,10 +64,7 @@ fn transmit(
         print!("  index {index}, {length} bytes: ");
         match state.step(&out[..length], HEAD, buffer) {
             Verdict::More => println!("more wanted"),
-            Verdict::Delivered(words) => {
-                let message = &buffer[..words.total as usize];
-                println!("delivered, {}", message.escape_ascii());
-            }
+            Verdict::Delivered(words) => say_message(&words, buffer),
             Verdict::Refused(refusal) => println!("refused with {refusal}"),
         }
     }
@@ -71,8 +82,8 @@ fn main() -> Result<(), Refusal> {
 
     // What the head keeps from frame to frame.
     let (mut state, mut buffer) = (Reassembly::default(), [0; MESSAGE_MAX]);
-    transmit(0, 1, speed, None, &mut state, &mut buffer)?;
-    transmit(1, 2, speed, Some(1), &mut state, &mut buffer)?;
+    transmit(7, 1, speed, None, &mut state, &mut buffer)?;
+    transmit(8, 2, speed, Some(1), &mut state, &mut buffer)?;
 
     let (mut positions, mut ring) = (Positions::default(), [0; 64]);
     positions.post(&mut ring, 6, b"send message 2 again")?;

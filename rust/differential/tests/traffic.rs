@@ -1,7 +1,8 @@
 //! Whole traffic through the reassembly: any messages for us, framed by the rules and sent one
-//! after another; any frames lost except those with Index 0; frames that are refused with 1 to 4
-//! put in anywhere. Each message that lost no frame is handed up once, with the call that gets its
-//! last frame, and nothing else is.
+//! after another; any frames lost except those with Index 0, or those too where messages are told
+//! apart by their carried words; frames that are refused with 1 to 4 put in anywhere. Each message
+//! that lost no frame is handed up once, with the call that gets its last frame, and nothing else
+//! is.
 
 use differential::frames::{
     for_reference, other_receiver, random_envelope, wrong_type, TYPE_AND_VERSION,
@@ -25,9 +26,19 @@ struct Call {
     hands_up: Option<Message>,
 }
 
+/// Which frames may be lost.
+#[derive(Clone, Copy, PartialEq, Eq)]
+enum Losses {
+    AllButIndex0,
+    Any,
+}
+
 /// A list of calls that grows, and what went into it.
 struct Traffic {
     us: u32,
+    losses: Losses,
+    /// The carried words of the last message whose Index 0 frame arrived.
+    begun: Option<Words>,
     calls: Vec<Call>,
     whole: usize,
     damaged: usize,
@@ -35,9 +46,11 @@ struct Traffic {
 }
 
 impl Traffic {
-    fn new(us: u32) -> Traffic {
+    fn new(us: u32, losses: Losses) -> Traffic {
         Traffic {
             us,
+            losses,
+            begun: None,
             calls: Vec::new(),
             whole: 0,
             damaged: 0,
@@ -46,9 +59,11 @@ impl Traffic {
     }
 
     /// Sends a message, of which frames may be lost, and puts frames in before each.
-    fn send(&mut self, random: &mut Random, envelope: &Envelope, bytes: Vec<u8>) {
-        let frames = frame::framed(&for_reference(envelope), &cut(random, &bytes));
-        let arrives = arrivals(random, frames.len());
+    fn send(&mut self, random: &mut Random, envelope: Envelope, bytes: Vec<u8>) {
+        let pieces = cut(random, &bytes);
+        let arrives = arrivals(random, pieces.len(), self.losses);
+        let envelope = self.told_apart(envelope, bytes.len(), arrives[0]);
+        let frames = frame::framed(&for_reference(&envelope), &pieces);
         for (index, frame) in frames.iter().enumerate() {
             self.put_in_some(random, &[&frames[0], frame]);
             if arrives[index] {
@@ -61,7 +76,20 @@ impl Traffic {
         }
         self.whole += 1;
         let last = self.calls.last_mut().expect("the last frame arrived");
-        last.hands_up = Some(message(envelope, bytes));
+        let words = words(&envelope, bytes.len());
+        last.hands_up = Some(Message { words, bytes });
+    }
+
+    /// The envelope; where a message does not begin, as its Index 0 frame is lost, with another
+    /// sequence number if else it would have the words of the last one that did.
+    fn told_apart(&mut self, envelope: Envelope, length: usize, begins: bool) -> Envelope {
+        let words = words(&envelope, length);
+        if begins {
+            self.begun = Some(words);
+        } else if self.begun == Some(words) {
+            return next_number(envelope);
+        }
+        envelope
     }
 
     /// Puts in none or a few frames that are refused with 1 to 4, each otherwise like one of
@@ -107,16 +135,21 @@ impl Traffic {
     }
 }
 
-fn message(envelope: &Envelope, bytes: Vec<u8>) -> Message {
-    Message {
-        words: Words {
-            sequence: envelope.sequence,
-            id: envelope.id,
-            sender: envelope.sender,
-            status: envelope.status,
-            total: bytes.len() as u32,
-        },
-        bytes,
+fn words(envelope: &Envelope, length: usize) -> Words {
+    Words {
+        sequence: envelope.sequence,
+        id: envelope.id,
+        sender: envelope.sender,
+        status: envelope.status,
+        total: length as u32,
+    }
+}
+
+/// The same envelope with the next sequence number.
+fn next_number(envelope: Envelope) -> Envelope {
+    Envelope {
+        sequence: envelope.sequence.wrapping_add(1),
+        ..envelope
     }
 }
 
@@ -142,18 +175,22 @@ fn cut<'a>(random: &mut Random, message: &'a [u8]) -> Vec<&'a [u8]> {
     pieces
 }
 
-/// For each frame of a message, whether it arrives: all do, all but one, some, or the first only.
-fn arrivals(random: &mut Random, count: usize) -> Vec<bool> {
+/// For each frame of a message, whether it arrives: all do, all but one, some, the first only, or
+/// those on one side of a place.
+fn arrivals(random: &mut Random, count: usize, losses: Losses) -> Vec<bool> {
     let one = random.pick_or_within(&[1, 2, count - 1], 0..=count - 1);
-    let kind = random.within(0..=5);
+    let kind = random.within(0..=7);
     let mut arrives = |index| match kind {
         0..=2 => true,
         3 => index != one,
         4 => random.bool(),
-        _ => false,
+        5 => index == 0,
+        6 => index < one,
+        _ => index >= one,
     };
+    let spared = |index| index == 0 && losses == Losses::AllButIndex0;
     (0..count)
-        .map(|index| index == 0 || arrives(index))
+        .map(|index| spared(index) || arrives(index))
         .collect()
 }
 
@@ -184,19 +221,15 @@ fn length(random: &mut Random, longest: usize) -> usize {
 }
 
 /// Traffic of a few messages, for a buffer of this length.
-fn traffic(random: &mut Random, buffer: usize) -> Traffic {
-    let mut traffic = Traffic::new(random.word());
+fn traffic(random: &mut Random, losses: Losses, buffer: usize) -> Traffic {
+    let mut traffic = Traffic::new(random.word(), losses);
     let longest = buffer.min(MESSAGE_MAX);
     // Few, so that messages with the same words follow each other, or with all but one the same.
     let [first, other] = [(); 2].map(|()| Envelope {
         receiver: traffic.us,
         ..random_envelope(random)
     });
-    let next = Envelope {
-        sequence: first.sequence.wrapping_add(1),
-        ..first
-    };
-    let envelopes = [first, next, other];
+    let envelopes = [first, next_number(first), other];
     let mut repeated = length(random, longest);
     for _ in 0..random.within(0..=8) {
         if random.bool() {
@@ -204,7 +237,7 @@ fn traffic(random: &mut Random, buffer: usize) -> Traffic {
         }
         let bytes = random.bytes(repeated);
         let envelope = random.pick(&envelopes);
-        traffic.send(random, &envelope, bytes);
+        traffic.send(random, envelope, bytes);
     }
     let empty = frame::framed(&for_reference(&envelopes[0]), &[&[]]);
     traffic.put_in_some(random, &[&empty[0]]);
@@ -225,12 +258,14 @@ fn fresh(random: &mut Random) -> Block {
     state
 }
 
-/// Makes the calls, and compares call by call what is handed up.
-fn check(random: &mut Random, traffic: &Traffic, buffer: &[u8]) {
+/// Makes the calls, and compares call by call what is handed up. Answers how many are refused with 7.
+fn check(random: &mut Random, traffic: &Traffic, buffer: &[u8]) -> usize {
     let state = fresh(random);
     let mut machine = Machine::new(random, traffic.us, state, buffer);
+    let mut other_words = 0;
     for call in &traffic.calls {
-        let handed_up = match machine.step(&call.frame) {
+        let verdict = machine.step(&call.frame);
+        let handed_up = match verdict {
             Verdict::Delivered(words) => Some(Message {
                 words,
                 bytes: machine.buffer()[..words.total as usize].to_vec(),
@@ -238,16 +273,20 @@ fn check(random: &mut Random, traffic: &Traffic, buffer: &[u8]) {
             _ => None,
         };
         assert_eq!(handed_up, call.hands_up);
+        other_words += usize::from(verdict == Verdict::Refused(7));
     }
+    other_words
 }
 
-fn check_many(random: &mut Random, what: &str, count: usize, buffers: &[usize]) {
-    let (mut calls, mut whole, mut damaged, mut put_in) = (0, 0, 0, 0);
+/// Checks as much traffic as is asked for. Answers how many calls are refused with 7.
+fn check_many(seed: u64, what: &str, count: usize, losses: Losses, buffers: &[usize]) -> usize {
+    let random = &mut Random::new(seed);
+    let (mut calls, mut whole, mut damaged, mut put_in, mut other_words) = (0, 0, 0, 0, 0);
     for _ in 0..count {
         let buffer = random.pick_or_within(buffers, 0..=buffers[buffers.len() - 1]);
-        let traffic = traffic(random, buffer);
+        let traffic = traffic(random, losses, buffer);
         let buffer = random.bytes(buffer);
-        check(random, &traffic, &buffer);
+        other_words += check(random, &traffic, &buffer);
         calls += traffic.calls.len();
         whole += traffic.whole;
         damaged += traffic.damaged;
@@ -257,18 +296,30 @@ fn check_many(random: &mut Random, what: &str, count: usize, buffers: &[usize]) 
     report(&format!("{what}, frames put in"), put_in);
     report(&format!("{what}, messages handed up"), whole);
     report(&format!("{what}, messages that lost a frame"), damaged);
+    other_words
 }
+
+const SHORT: [usize; 5] = [0, 1, 2, 3, 24];
+const LONG: [usize; 7] = [231, 232, 233, 4095, 4096, 4097, 5000];
 
 #[test]
 fn short_messages() {
-    let mut random = Random::new(50);
     let count = cases(20_000);
-    check_many(&mut random, "traffic, short", count, &[0, 1, 2, 3, 24]);
+    check_many(50, "traffic, short", count, Losses::AllButIndex0, &SHORT);
 }
 
 #[test]
 fn long_messages() {
-    let mut random = Random::new(51);
-    let buffers = [231, 232, 233, 4095, 4096, 4097, 5000];
-    check_many(&mut random, "traffic, long", cases(1_000), &buffers);
+    let count = cases(1_000);
+    check_many(51, "traffic, long", count, Losses::AllButIndex0, &LONG);
+}
+
+/// Where Index 0 frames are lost too, the front of one message can meet the back of the next, and
+/// only their words tell them apart, often byte 1 alone.
+#[test]
+fn any_frame_lost() {
+    let (short, long) = (cases(20_000), cases(1_000));
+    let other_words = check_many(52, "any loss, short", short, Losses::Any, &SHORT)
+        + check_many(53, "any loss, long", long, Losses::Any, &LONG);
+    report("any loss, calls refused with 7", other_words);
 }

@@ -82,7 +82,7 @@ pub struct Header {
 /// The words that every frame of a message repeats, besides the message's length.
 #[derive(Clone, Copy, Debug, PartialEq, Eq)]
 pub struct Envelope {
-    /// The message's number, in byte 1 of each frame. Any will do.
+    /// The message's number, in byte 1 of each of its frames; of any value.
     pub sequence: u8,
     /// Message ID.
     pub id: u32,

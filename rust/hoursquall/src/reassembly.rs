@@ -7,7 +7,7 @@ use crate::{calls, Refusal};
 /// ```
 /// use hoursquall::{write, Envelope, Reassembly, Refusal, Verdict, FRAME_MAX};
 ///
-/// let envelope = Envelope { sequence: 0, id: 7, sender: 10, receiver: 11, status: 0 };
+/// let envelope = Envelope { sequence: 3, id: 7, sender: 10, receiver: 11, status: 0 };
 /// let frame = |message: &[u8], index| {
 ///     let mut out = [0; FRAME_MAX];
 ///     let length = write(&envelope, message, 2, index, &mut out)?;
@@ -25,7 +25,7 @@ use crate::{calls, Refusal};
 /// let Verdict::Delivered(words) = reassembly.step(&frame(b"next", 1)?, 11, &mut buffer) else {
 ///     panic!("it is complete");
 /// };
-/// assert_eq!((words.id, words.sender, words.status), (7, 10, 0));
+/// assert_eq!((words.sequence, words.id, words.sender, words.status), (3, 7, 10, 0));
 /// assert_eq!(&buffer[..words.total as usize], b"next");
 /// # Ok::<(), Refusal>(())
 /// ```
