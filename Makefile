@@ -13,7 +13,7 @@ help:
 	@echo 'make test           the gate: layout, documents, lints, proofs, must-fail edits, programs, examples, Rust tests'
 	@echo 'make check          the same without the edits, and without proving again what has not changed'
 	@echo 'make wrong-answers  try the edits beside the gate; CRATE=ubios: those of one crate'
-	@echo 'make demo           prove the demonstration and run it'
+	@echo 'make demo           prove the player, and play the recorded day that is kept here'
 	@echo 'make vectors        run the numbers to check by, and every refusal, through the proved code'
 	@echo 'make examples       link the library from C and from Rust, and run both'
 	@echo 'make bench          time the library beside plain Rust'
@@ -29,8 +29,8 @@ wrong-answers:
 	@scripts/wrong-answers.sh try $(CRATE)
 
 demo:
-	$(call quietly,rt check demo)
-	@cd crates/demo/data && ../../../target/bin/demo
+	$(call quietly,rt check play)
+	@cd crates/play/data && echo '$$ play receiver log' && ../../../target/bin/play receiver log
 
 vectors:
 	$(call quietly,rt check vectors)
@@ -43,6 +43,7 @@ examples:
 
 bench:
 	$(call quietly,rt staticlib hoursquall)
+	$(call quietly,rt check play)
 	@scripts/bench.sh
 
 times:

@@ -1,10 +1,10 @@
 /* Hoursquall: UBIOS message frames, their reassembly into messages, the notice ring,
- * UBIOS tables, SFI tables, the checksums of both, and the frame log.
+ * UBIOS tables, SFI tables, the checksums of both, the frame log, and its replay.
  *
  * Link target/staticlib/libhoursquall.a (x86-64, System V calling convention). No release
  * is out yet: what is declared here may change, as it did when byte 1 of a frame became a
- * carried word, so compile a caller anew, and keep no state of the reassembly from one
- * build of the library to the next.
+ * carried word, so compile a caller anew, and keep no state of the reassembly, and no
+ * player, from one build of the library to the next.
  *
  * What every caller owes: a pointer is not null, also with a length of 0; it is
  * aligned, and points to as many values as its length or its array type says,
@@ -42,6 +42,7 @@ enum {
     HS_LOG_RECORD_SIZE = 260,
     HS_LOG_HEADER_SIZE = 4, /* what stands before the frame in a record */
     HS_LOG_FRAME_MAX = 256, /* a frame in a record */
+    HS_LINE_MAX = 47,       /* a line of the replay, its newline included */
 };
 
 /* Places of the words that hs_frame_parse hands out, in the frame's order. */
@@ -68,11 +69,12 @@ enum {
     HS_WORDS = 5,
 };
 
-/* How many numbers a state of the reassembly has, and a ring positions; how many numbers
- * are handed out of a table, a root table and a table's body; and how many slots a root
- * table has at most. */
+/* How many numbers a state of the reassembly has, and a player, and a ring positions; how
+ * many numbers are handed out of a table, a root table and a table's body; and how many
+ * slots a root table has at most. */
 enum {
     HS_STATE_NUMBERS = 8,
+    HS_PLAYER_NUMBERS = 9, /* a state, and the next record's number */
     HS_POSITIONS = 2,
     HS_TABLE_NUMBERS = 2,
     HS_ROOT_NUMBERS = 3,
@@ -336,6 +338,41 @@ uint32_t hs_log_read(const uint8_t *record, size_t record_len, size_t *frame_len
  * Refusals 50, 52: record is unchanged. */
 uint32_t hs_log_write(const uint8_t *frame, size_t frame_len, uint8_t *record,
                       size_t record_len);
+
+/* Plays a record of the frame log for receiver us: reads it as hs_log_read does, and runs
+ * its frame as hs_reassembly_step does, with a buffer of HS_MESSAGE_MAX bytes. Refusals
+ * 50, 52, 51, 53: the frame is not run, and state, buffer and words are unchanged. Else
+ * the answer, state, buffer and words are those of hs_reassembly_step: HS_DELIVERED,
+ * HS_MORE, or one of the refusals 11, 1, 3, 4, 5, 6, 7, 10, 8, 9. */
+uint32_t hs_replay_record(uint64_t state[HS_STATE_NUMBERS], const uint8_t *record,
+                          size_t record_len, uint32_t us,
+                          uint8_t buffer[HS_MESSAGE_MAX], uint32_t words[HS_WORDS]);
+
+/* Plays a chunk of the frame log for receiver us, and lists its records as text. From its
+ * start the chunk is cut into records of HS_LOG_RECORD_SIZE bytes; a short last one is a
+ * record too, which gets 50. They are played in order, each as hs_replay_record does, and
+ * the line of each is put into out, behind the line before it: the record's number, then
+ * the refusal's number, or "more", or "delivered", the Message ID and the message's
+ * length. Numbers are decimal, one space stands between two words, and the line ends in
+ * one newline, 0x0A; it has at most HS_LINE_MAX bytes.
+ *
+ * A record is not played, and none behind it, where under HS_LINE_MAX bytes of out are
+ * left, or player[8] is 2^64 - 1. Always: *read is how many bytes of chunk were played, and
+ * the answer how many bytes of out were written; out is unchanged behind them. Hand in
+ * what is left of the chunk again, and no record is lost or played twice. A chunk that is
+ * not the log's last must end where a record does.
+ *
+ * player[0] to player[7] are a state, as for hs_reassembly_step, and player[8] is the
+ * number of the next record, of any value; so zeroed memory is a player at the start of a
+ * day. The call leaves player and buffer for the next one. If no record was played, both
+ * are unchanged. Else player has the state behind the last one that was played, and the
+ * next number. That state is written anew: fresh as eight zeros, and open as laid out
+ * above. So where no frame changed it, numbers that don't count become zeros, and what is
+ * neither fresh nor 1 with carried words below their limits becomes 1 and seven zeros,
+ * which gets 11 like it. */
+size_t hs_replay_chunk(uint64_t player[HS_PLAYER_NUMBERS], const uint8_t *chunk,
+                       size_t chunk_len, uint32_t us, uint8_t buffer[HS_MESSAGE_MAX],
+                       uint8_t *out, size_t out_len, size_t *read);
 
 #ifdef __cplusplus
 }

@@ -5,6 +5,7 @@ pub mod frames;
 pub mod log_records;
 pub mod messages;
 pub mod notices;
+pub mod replays;
 pub mod sfi_tables;
 mod state;
 pub mod sums;

@@ -77,7 +77,7 @@ fn open_of(b: [u64; 8]) -> State
 }
 
 // Each case writes the whole block itself: one write behind both would carry eight numbers to it from either.
-fn write_state(state: State, block: &mut [u64; 8])
+pub(crate) fn write_state(state: State, block: &mut [u64; 8])
     ensures { λ _. ⌜ now (block .exit) ≡ blockOf state ⌝ }
 {
     match state {

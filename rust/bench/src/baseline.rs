@@ -1,6 +1,8 @@
 //! What the library does, in plain optimised Rust. Never inlined, since a call to the library
 //! isn't either, and with the arguments of the C functions.
 
+use std::io::{self, Write};
+
 const HEADER_SIZE: usize = 24;
 const NOTICE_HEADER_SIZE: usize = 8;
 const TABLE_HEADER_SIZE: usize = 32;
@@ -8,6 +10,7 @@ const ROOT_HEADER_SIZE: usize = 40;
 const SFI_HEADER_SIZE: usize = 24;
 const LOG_HEADER_SIZE: usize = 4;
 const RECORD_SIZE: usize = 260;
+const LINE_MAX: usize = 47;
 const PAGE: usize = 4096;
 
 /// The loop that Q-3 asks for: one byte at a time.
@@ -121,6 +124,17 @@ pub fn write(
 
 #[inline(never)]
 pub fn step(
+    state: &mut [u64; 8],
+    frame: &[u8],
+    us: u32,
+    buffer: &mut [u8],
+    words: &mut [u32; 5],
+) -> u32 {
+    run(state, frame, us, buffer, words)
+}
+
+#[inline(always)]
+fn run(
     state: &mut [u64; 8],
     frame: &[u8],
     us: u32,
@@ -554,22 +568,115 @@ pub fn log_write(frame: &[u8], record: &mut [u8]) -> u32 {
 
 #[inline(never)]
 pub fn log_read(record: &[u8], frame_len: &mut usize) -> u32 {
+    match frame_in(record) {
+        Ok(frame) => {
+            *frame_len = frame.len();
+            0
+        }
+        Err(refusal) => refusal,
+    }
+}
+
+/// The frame of a record that passes.
+#[inline(always)]
+fn frame_in(record: &[u8]) -> Result<&[u8], u32> {
     if record.len() != RECORD_SIZE {
-        return 50;
+        return Err(50);
     }
     let length = usize::from(u16::from_le_bytes([record[0], record[1]]));
     if length > 256 {
-        return 52;
+        return Err(52);
     }
     if record[2] != 0 || record[3] != 0 {
-        return 51;
+        return Err(51);
     }
-    let rest = &record[LOG_HEADER_SIZE + length..];
+    let (frame, rest) = record[LOG_HEADER_SIZE..].split_at(length);
     if rest.iter().any(|&byte| byte != 0) {
-        return 53;
+        return Err(53);
     }
-    *frame_len = length;
-    0
+    Ok(frame)
+}
+
+#[inline(never)]
+pub fn replay_record(
+    state: &mut [u64; 8],
+    record: &[u8],
+    us: u32,
+    buffer: &mut [u8; 4096],
+    words: &mut [u32; 5],
+) -> u32 {
+    play(state, record, us, buffer, words)
+}
+
+#[inline(always)]
+fn play(
+    state: &mut [u64; 8],
+    record: &[u8],
+    us: u32,
+    buffer: &mut [u8; 4096],
+    words: &mut [u32; 5],
+) -> u32 {
+    match frame_in(record) {
+        Ok(frame) => run(state, frame, us, buffer, words),
+        Err(refusal) => refusal,
+    }
+}
+
+#[inline(never)]
+pub fn replay_chunk(
+    player: &mut [u64; 9],
+    chunk: &[u8],
+    us: u32,
+    buffer: &mut [u8; 4096],
+    mut out: &mut [u8],
+    read: &mut usize,
+) -> usize {
+    let room = out.len();
+    let [state @ .., mut number] = *player;
+    let (mut state, mut words) = (written_anew(state), [0; 5]);
+    *read = 0;
+    for record in chunk.chunks(RECORD_SIZE) {
+        if out.len() < LINE_MAX || number == u64::MAX {
+            break;
+        }
+        let answer = play(&mut state, record, us, buffer, &mut words);
+        write_line(&mut out, number, answer, &words).expect("there is room for a line");
+        *read += record.len();
+        number += 1;
+    }
+    if *read > 0 {
+        player[..8].copy_from_slice(&state);
+        player[8] = number;
+    }
+    room - out.len()
+}
+
+/// The numbers of the state that a block stands for; where it stands for none, of one that no
+/// buffer is consistent with.
+#[inline(always)]
+fn written_anew(state: [u64; 8]) -> [u64; 8] {
+    let [kind, sequence, id, sender, status, total, ..] = state;
+    let narrow = sequence >> 8 == 0 && (id | sender | status | total) >> 32 == 0;
+    match kind {
+        0 => [0; 8],
+        1 if narrow => state,
+        _ => [1, 0, 0, 0, 0, 0, 0, 0],
+    }
+}
+
+/// The line of a record, from what [`replay_record`] answers.
+#[inline(always)]
+pub fn write_line(
+    out: &mut impl Write,
+    number: u64,
+    answer: u32,
+    [_, id, _, _, total]: &[u32; 5],
+) -> io::Result<()> {
+    match answer {
+        0 => writeln!(out, "{number} more"),
+        100 => writeln!(out, "{number} delivered {id} {total}"),
+        refusal => writeln!(out, "{number} {refusal}"),
+    }
 }
 
 fn word_at(bytes: &[u8], at: usize) -> u32 {

@@ -1,18 +1,23 @@
 //! What the differential tests share. Each test compares the library's answers, and every byte of
 //! the memory that it was lent, with the reference; seeds are fixed, so that a failure repeats.
 
+pub mod day;
 pub mod faults;
 pub mod framelog;
 pub mod frames;
+pub mod logs;
 pub mod memory;
 pub mod notice;
 pub mod random;
 pub mod reassembly;
+pub mod records;
+pub mod replay;
 pub mod scene;
 pub mod sfi;
 pub mod sfi_memory;
 pub mod sfi_tables;
 pub mod tables;
+pub mod traffic;
 pub mod ubios;
 
 use std::env;

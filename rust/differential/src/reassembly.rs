@@ -112,7 +112,9 @@ impl Lent {
 }
 
 /// The state that a block stands for, if it stands for one.
-fn state_of([kind, sequence, id, sender, status, total, next, filled]: Block) -> Option<State> {
+pub(crate) fn state_of(
+    [kind, sequence, id, sender, status, total, next, filled]: Block,
+) -> Option<State> {
     if kind == 0 {
         return Some(State::Fresh);
     }
@@ -131,7 +133,7 @@ fn state_of([kind, sequence, id, sender, status, total, next, filled]: Block) ->
     (kind == 1).then_some(State::Open(open))
 }
 
-fn block_of(state: State) -> Block {
+pub(crate) fn block_of(state: State) -> Block {
     let State::Open(Open {
         words,
         next,
@@ -145,13 +147,13 @@ fn block_of(state: State) -> Block {
 }
 
 /// The carried words as the library hands them up.
-fn numbers_of(words: reassembly::Words) -> [u32; 5] {
+pub(crate) fn numbers_of(words: reassembly::Words) -> [u32; 5] {
     let sequence = u32::from(words.sequence);
     [sequence, words.id, words.sender, words.status, words.total]
 }
 
 /// The same verdict, in the library's type.
-fn for_library(verdict: reassembly::Verdict) -> Verdict {
+pub(crate) fn for_library(verdict: reassembly::Verdict) -> Verdict {
     match verdict {
         reassembly::Verdict::More => Verdict::More,
         reassembly::Verdict::Delivered(words) => Verdict::Delivered(Words {
@@ -166,7 +168,7 @@ fn for_library(verdict: reassembly::Verdict) -> Verdict {
 }
 
 /// What the C function answers.
-fn number(verdict: Verdict) -> u32 {
+pub(crate) fn number(verdict: Verdict) -> u32 {
     match verdict {
         Verdict::More => 0,
         Verdict::Delivered(_) => 100,

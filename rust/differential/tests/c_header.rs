@@ -1,7 +1,7 @@
 //! The C header declares what the raw module declares, and both what the Rattle source exports: a comparison
 //! of the texts.
 
-use hoursquall::{framelog, sfi};
+use hoursquall::{framelog, replay, sfi};
 use std::collections::BTreeSet;
 use std::path::Path;
 use std::{env, fs};
@@ -47,6 +47,8 @@ fn declarator(name: &str, kind: &str) -> String {
         "*mut [u32; 7]" => format!("uint32_t {name}[HS_HEADER_WORDS]"),
         "*mut [u32; 5]" => format!("uint32_t {name}[HS_WORDS]"),
         "*mut [u64; 8]" => format!("uint64_t {name}[HS_STATE_NUMBERS]"),
+        "*mut [u64; 9]" => format!("uint64_t {name}[HS_PLAYER_NUMBERS]"),
+        "*mut [u8; 4096]" => format!("uint8_t {name}[HS_MESSAGE_MAX]"),
         "*mut [usize; 2]" if name == "positions" => format!("size_t {name}[HS_POSITIONS]"),
         "*mut [usize; 2]" if name == "part" => format!("size_t {name}[HS_TABLE_NUMBERS]"),
         "*mut [usize; 3]" if name == "root" => format!("size_t {name}[HS_ROOT_NUMBERS]"),
@@ -93,7 +95,7 @@ fn what_is_exported_is_declared() {
 
 /// Each constant of the header that is not hexadecimal: sizes, places of the words that are handed out, answers,
 /// and refusals by their numbers in document 01.
-const CONSTANTS: [(&str, usize); 86] = [
+const CONSTANTS: [(&str, usize); 88] = [
     ("HS_HEADER_SIZE", hoursquall::HEADER_SIZE),
     ("HS_FRAME_MAX", hoursquall::FRAME_MAX),
     ("HS_PIECE_MAX", hoursquall::PIECE_MAX),
@@ -113,6 +115,8 @@ const CONSTANTS: [(&str, usize); 86] = [
     ("HS_LOG_RECORD_SIZE", framelog::RECORD_SIZE),
     ("HS_LOG_HEADER_SIZE", framelog::HEADER_SIZE),
     ("HS_LOG_FRAME_MAX", framelog::FRAME_MAX),
+    ("HS_LINE_MAX", replay::LINE_MAX),
+    ("HS_PLAYER_NUMBERS", replay::PLAYER_NUMBERS),
     ("HS_HEADER_SEQUENCE", 0),
     ("HS_HEADER_INDEX", 1),
     ("HS_HEADER_ID", 2),

@@ -5,6 +5,7 @@ use differential::faults::Faults;
 use differential::framelog::Machine;
 use differential::frames::{library_frames, random_envelope};
 use differential::random::Random;
+use differential::records::{self, long_length, non_zero, other_length, put_length, record, spoil};
 use differential::tables::put;
 use hoursquall::framelog::{FRAME_MAX, HEADER_SIZE, RECORD_SIZE};
 use hoursquall::PIECE_MAX;
@@ -12,24 +13,8 @@ use hoursquall::PIECE_MAX;
 const READ_ANSWERS: [usize; 5] = [0, 50, 51, 52, 53];
 const WRITE_ANSWERS: [usize; 3] = [0, 50, 52];
 
-/// The refusals of a read, and those of a write, in their order.
-const READ_ORDER: [u32; 4] = [50, 52, 51, 53];
+/// The refusals of a write, in their order.
 const WRITE_ORDER: [u32; 2] = [50, 52];
-
-/// The record of a frame; of one that is too long, as much as there is room for. It is not made by
-/// the reference, so that the two are compared.
-fn record(frame: &[u8]) -> Vec<u8> {
-    let mut record = vec![0; HEADER_SIZE];
-    put_length(&mut record, frame.len());
-    record.extend(frame);
-    record.resize(RECORD_SIZE, 0);
-    record
-}
-
-/// Sets a record's length, which is any.
-fn put_length(record: &mut [u8], length: usize) {
-    put(record, 0, &(length as u16).to_le_bytes());
-}
 
 /// What a frame and a slice of these lengths get, if all else is right.
 fn refusal_of(frame_length: usize, length: usize) -> Option<u32> {
@@ -52,26 +37,6 @@ fn frame(random: &mut Random, length: usize) -> Vec<u8> {
     }
 }
 
-/// The length of a frame that is too long, as a record can say it.
-fn long_length(random: &mut Random) -> usize {
-    let limits = [257, 258, 260, 511, 512, 0x0800, 0x8000, 0xFF00, 0xFFFF];
-    random.pick_or_within(&limits, 257..=0xFFFF)
-}
-
-/// The length of a slice that is no record.
-fn other_length(random: &mut Random) -> usize {
-    let limits = [0, 1, 2, 3, 4, 256, 259, 261, 264, 516, 520];
-    match random.pick_or_within(&limits, 0..=600) {
-        RECORD_SIZE => RECORD_SIZE + 1,
-        length => length,
-    }
-}
-
-fn non_zero(random: &mut Random) -> u8 {
-    let any = random.within(1..=255) as u8;
-    random.pick(&[any, any, 1, 0x80, 0xFF])
-}
-
 /// A record with these faults.
 fn faulty(random: &mut Random, faults: Faults) -> Vec<u8> {
     // Behind the longest frame there is no byte that could be one.
@@ -80,22 +45,7 @@ fn faulty(random: &mut Random, faults: Faults) -> Vec<u8> {
         length => length,
     };
     let mut record = record(&frame(random, length));
-    if faults.has(53) {
-        let (first, last) = (HEADER_SIZE + length, RECORD_SIZE - 1);
-        let place = random.pick_or_within(&[first, last], first..=last);
-        record[place] = non_zero(random);
-    }
-    if faults.has(51) {
-        let bytes = [non_zero(random), non_zero(random)];
-        let either = random.pick(&[[bytes[0], 0], [0, bytes[1]], bytes]);
-        put(&mut record, 2, &either);
-    }
-    if faults.has(52) {
-        put_length(&mut record, long_length(random));
-    }
-    if faults.has(50) {
-        record.resize(other_length(random), random.u8());
-    }
+    spoil(random, &mut record, faults);
     record
 }
 
@@ -149,7 +99,7 @@ fn faults_of_reads() {
     let mut random = Random::new(142);
     let mut machine = Machine::new(&mut random);
     for case in 0..cases(96_000) {
-        let faults = Faults::new(&READ_ORDER, case % 16);
+        let faults = Faults::new(&records::ORDER, case % 16);
         let record = faulty(&mut random, faults);
         let answer = machine.read(&record);
         assert_eq!(answer.err(), faults.first(), "{faults:?}");

@@ -205,3 +205,41 @@ pub fn log_read(record: &[u8], frame_len: &mut usize) -> u32 {
     // exclusively.
     unsafe { raw::hs_log_read(record.as_ptr(), record.len(), frame_len) }
 }
+
+#[inline(always)]
+pub fn replay_record(
+    state: &mut [u64; 8],
+    record: &[u8],
+    us: u32,
+    buffer: &mut [u8; 4096],
+    words: &mut [u32; 5],
+) -> u32 {
+    // SAFETY: the pointer and the length are those of one slice; what is written is borrowed
+    // exclusively.
+    unsafe { raw::hs_replay_record(state, record.as_ptr(), record.len(), us, buffer, words) }
+}
+
+#[inline(always)]
+pub fn replay_chunk(
+    player: &mut [u64; 9],
+    chunk: &[u8],
+    us: u32,
+    buffer: &mut [u8; 4096],
+    out: &mut [u8],
+    read: &mut usize,
+) -> usize {
+    // SAFETY: each pointer and length are those of one slice; what is written is borrowed
+    // exclusively.
+    unsafe {
+        raw::hs_replay_chunk(
+            player,
+            chunk.as_ptr(),
+            chunk.len(),
+            us,
+            buffer,
+            out.as_mut_ptr(),
+            out.len(),
+            read,
+        )
+    }
+}

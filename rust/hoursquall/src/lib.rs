@@ -1,5 +1,5 @@
-//! Message frames, their reassembly, the notice ring, UBIOS tables, SFI tables, the frame log and
-//! table sums: safe wrappers over the proved static library.
+//! Message frames, their reassembly, the notice ring, UBIOS tables, SFI tables, the frame log, its
+//! replay and table sums: safe wrappers over the proved static library.
 //!
 //! ```
 //! use hoursquall::{count, data, parse, write, Envelope, FRAME_MAX};
@@ -23,6 +23,7 @@ pub mod framelog;
 mod notice;
 pub mod raw;
 mod reassembly;
+pub mod replay;
 pub mod sfi;
 mod ubios;
 

@@ -113,4 +113,24 @@ extern "C" {
         record: *mut u8,
         record_len: usize,
     ) -> u32;
+
+    pub fn hs_replay_record(
+        state: *mut [u64; 8],
+        record: *const u8,
+        record_len: usize,
+        us: u32,
+        buffer: *mut [u8; 4096],
+        words: *mut [u32; 5],
+    ) -> u32;
+
+    pub fn hs_replay_chunk(
+        player: *mut [u64; 9],
+        chunk: *const u8,
+        chunk_len: usize,
+        us: u32,
+        buffer: *mut [u8; 4096],
+        out: *mut u8,
+        out_len: usize,
+        read: *mut usize,
+    ) -> usize;
 }

@@ -34,7 +34,7 @@ pub struct Reassembly {
     numbers: [u64; 8],
 }
 
-/// What a frame led to.
+/// What a frame led to, or a record of the frame log.
 #[derive(Clone, Copy, Debug, PartialEq, Eq)]
 pub enum Verdict {
     /// More frames are wanted.
@@ -82,7 +82,7 @@ impl Reassembly {
 }
 
 /// The library answers 0, or 100 for a delivery, or the number of a refusal.
-fn verdict(answer: u32, [sequence, id, sender, status, total]: [u32; 5]) -> Verdict {
+pub(crate) fn verdict(answer: u32, [sequence, id, sender, status, total]: [u32; 5]) -> Verdict {
     match answer {
         0 => Verdict::More,
         100 => Verdict::Delivered(Words {
