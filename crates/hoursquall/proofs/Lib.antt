@@ -1,2 +1,3 @@
 -- The theorems on what C keeps between calls.
 pub mod Theorems
+pub mod Chunks

@@ -78,7 +78,7 @@ unless P false p q = q refl
 none-fit : WordsFit (wordsAt 0 [])
 none-fit = record { sequence = omega arith; id = omega arith; sender = omega arith; status = omega arith; total = omega arith }
 
-state-fits : (block : List ℕ) → StateFits (stateOf block)
+pub state-fits : (block : List ℕ) → StateFits (stateOf block)
 unfolding stateOf
 state-fits b =
     either StateFits (eqb (getD b 0 0) 0) tt
@@ -139,11 +139,11 @@ source-fits us f are s w i filled (begun st h read) fits = subst ReadFits read (
 source-fits us f are s w i filled (continued q) fits = fits
 
 -- what is wanted of a step: the state after it carries words that fit, and what C sees of it is what it hands up
-record Crosses (before : List ℕ) (st : Stepped) : Type 0 where
-  fits : StateFits (st .answer .state)
-  seen : upInC (verdictNumber (st .answer .verdict)) (wordsAfter (st .answer .verdict) before) (st .buffer) ≡ upBy st
+pub record Crosses (before : List ℕ) (st : Stepped) : Type 0 where
+  pub fits : StateFits (st .answer .state)
+  pub seen : upInC (verdictNumber (st .answer .verdict)) (wordsAfter (st .answer .verdict) before) (st .buffer) ≡ upBy st
 
-step-crosses : (before : List ℕ) (us : ℕ) (s : State) → StateFits s → (b f : List ℕ) → AreBytes f → Crosses before (stepOf us s b f)
+pub step-crosses : (before : List ℕ) (us : ℕ) (s : State) → StateFits s → (b f : List ℕ) → AreBytes f → Crosses before (stepOf us s b f)
 step-crosses before us s fits b f are = by (outcome us s (length b) f)
   where
     by : Outcome us s (length b) f → Crosses before (stepOf us s b f)

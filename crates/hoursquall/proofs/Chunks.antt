@@ -1,0 +1,157 @@
+-- The theorems of `specs/Statements.antt` on the player's block.
+--     player-crosses       a player survives the way through it
+--     span-fits            the state after any records of bytes carries words that fit
+--     block-kept           so the block that a call leaves is the player after it
+--     heard-crosses        and calls over blocks are calls over players
+--     any-chunks-exported  of which the texts joined are the log's lines
+-- Assumes nothing.
+use Prim.Native.Nat.{ℕ, zero, suc, _+_, _-_, _≤_, _<_}
+use mathlib.Core.Bool.{Bool, true, false, cond}
+use mathlib.Core.Path.{_≡_, refl, sym, ap, ap₂, subst, _∙_}
+use mathlib.Core.List.{List, [], _∷_, _++_}
+use borrow.Author.Tests.{eq-eqb, eqb-true, leb-true, leb-false, ltb-true, ltb-false}
+use native.Mathlib.Omega.{arith}
+use lib.Dec.{eqb, leb, ltb}
+use lib.ListN.{length, take, drop, getD, length-drop}
+use lib.Seq.{getD-drop}
+use Rattle.le.specs.Word.{AreBytes}
+use Rattle.framelog.specs.Layout.{recordSize, cutOf}
+use Rattle.framelog.specs.Reading.{readOf}
+use Rattle.framelog.specs.declared.Logged.{Logged}
+use Rattle.framelog.specs.declared.Logged.the-variants.{Frame, Refused}
+use Rattle.reassembly.specs.Step.{stepOf}
+use Rattle.reassembly.specs.declared.State.{State}
+use Rattle.reassembly.specs.declared.State.the-variants.{Fresh, Open}
+use Rattle.replay.specs.Chunk.{Span, nothing, halts, starting, lineFor, nextPlayer, played}
+use Rattle.replay.specs.Day.{playOf}
+use Rattle.replay.specs.Statements as Replay
+use Rattle.replay.specs.declared.Player.{Player}
+use Rattle.replay.proofs.Days.{any-chunks}
+use Rattle.replay.proofs.Logs.{none-of, some-part}
+use Rattle.replay.proofs.Playing.{is-skipped, is-run}
+use Rattle.replay.proofs.Spans.{at-end, halted, goes-on}
+use Rattle.hoursquall.specs.Reassembly.{stateOf, blockOf}
+use Rattle.hoursquall.specs.Replay.{playerOf, numbersOf, playerAfter}
+use Rattle.hoursquall.specs.Statements.{StateFits, PlayerCrosses, HeardInC, joinedTo, callIn, heardInC, HeardCrosses, AnyChunksExported}
+use Rattle.hoursquall.proofs.Theorems.{state-crosses, state-fits, step-crosses}
+
+-- what follows a state's block does not count
+behind-block : (s : State) (n : ℕ) → stateOf (blockOf s ++ (n ∷ [])) ≡ stateOf (blockOf s)
+unfolding stateOf
+behind-block Fresh n = refl
+behind-block (Open p) n = refl
+
+number-is : (s : State) (n : ℕ) → getD (blockOf s ++ (n ∷ [])) 8 0 ≡ n
+number-is Fresh n = refl
+number-is (Open p) n = refl
+
+playing : State → ℕ → Player
+playing s n = record { state = s; number = n }
+
+pub player-crosses : PlayerCrosses
+unfolding playing
+player-crosses p fits = ap₂ playing (behind-block (p .state) (p .number) ∙ state-crosses (p .state) fits) (number-is (p .state) (p .number))
+
+-- zeroed memory is a player as a day starts
+starts-at : (block : List ℕ) → getD block 0 0 ≡ 0 → getD block 8 0 ≡ 0 → playerOf block ≡ starting
+unfolding stateOf playing
+starts-at block first last = ap₂ playing (rw (eq-eqb (getD block 0 0) 0 first)) last
+
+abbrev inC : Replay.Heard → HeardInC
+inC h = record { text = h .text; rest = h .rest }
+
+-- parts of bytes are bytes
+are-drop : (n : ℕ) (s : List ℕ) → AreBytes s → AreBytes (drop n s)
+are-drop n s are i = rw (getD-drop n s i 0) (are (n + i))
+
+are-take : (n : ℕ) (s : List ℕ) → AreBytes s → AreBytes (take n s)
+are-take zero s are i = omega arith
+are-take (suc n) [] are i = are i
+are-take (suc n) (b ∷ s) are zero = are zero
+are-take (suc n) (b ∷ s) are (suc i) = are-take n s (λ j. are (suc j)) i
+
+-- a record of bytes leaves a state whose words fit
+stage-fits : (us : ℕ) (state : State) (buffer r : List ℕ) → StateFits state → AreBytes r → StateFits (playOf us state buffer r .answer .state)
+stage-fits us state buffer r fits are = by (readOf recordSize r) refl
+  where
+    by : (x : Logged) → readOf recordSize r ≡ x → StateFits (playOf us state buffer r .answer .state)
+    by (Refused reason) e = rw (is-skipped us state buffer r reason e) fits
+    by (Frame n) e = rw (is-run us state buffer r n e) (step-crosses [] us state fits buffer (cutOf n r) (are-take n (drop 4 r) (are-drop 4 r are)) .fits)
+
+-- what is played leaves such a state, and where nothing is read it leaves the player
+record Kept (player : Player) (s : Span) : Type 0 where
+  fits : StateFits (s .player .state)
+  same : s .read ≡ 0 → s .player ≡ player
+
+module _ (us : ℕ) (player : Player) (buffer log : List ℕ) (room : ℕ) (fits : StateFits (player .state)) where
+  nothing-kept : Kept player (nothing player buffer)
+  nothing-kept = record { fits = fits; same = λ none. refl }
+
+  kept-end : length log ≤ 0 → Kept player (played us player buffer log room)
+  kept-end h = rw (at-end us player buffer log room (none-of log h)) nothing-kept
+
+  kept-halt : (some : 1 ≤ length log) → halts room player ≡ true → Kept player (played us player buffer log room)
+  kept-halt some e = rw (halted us player buffer log room some e) nothing-kept
+
+  abbrev first : List ℕ
+  first = take recordSize log
+
+  abbrev next : Player
+  next = nextPlayer player (playOf us (player .state) buffer first)
+
+  abbrev rest : Span
+  rest = played us next (playOf us (player .state) buffer first .buffer) (drop (length first) log) (room - length (lineFor player (playOf us (player .state) buffer first)))
+
+  kept-next : (some : 1 ≤ length log) → halts room player ≡ false → StateFits (rest .player .state) → Kept player (played us player buffer log room)
+  kept-next some e after =
+      rw (goes-on us player buffer log room some e) (record { fits = after; same = λ none. absurd (omega (arith, none, some-part 259 log some)) })
+
+span-fits : (k : ℕ) (us : ℕ) (player : Player) (buffer log : List ℕ) (room : ℕ) → length log ≤ k → StateFits (player .state) → AreBytes log
+    → Kept player (played us player buffer log room)
+span-fits zero us player buffer log room h fits are = kept-end us player buffer log room fits h
+span-fits (suc k) us player buffer log room h fits are =
+    by-length (leb 1 (length log)) refl
+    (λ some.
+    span-fits k us (next us player buffer log room fits) (playOf us (player .state) buffer (take recordSize log) .buffer) (drop (length (take recordSize log)) log)
+    (room - length (lineFor player (playOf us (player .state) buffer (take recordSize log))))
+    (rw (length-drop (length (take recordSize log)) log) (omega (arith, some-part 259 log some)))
+    (stage-fits us (player .state) buffer (take recordSize log) fits (are-take recordSize log are))
+    (are-drop (length (take recordSize log)) log are))
+  where
+    by-halt : (some : 1 ≤ length log) (t : Bool) → halts room player ≡ t → Kept (next us player buffer log room fits) (rest us player buffer log room fits) → Kept player (played us player buffer log room)
+    by-halt some true e after = kept-halt us player buffer log room fits some e
+    by-halt some false e after = kept-next us player buffer log room fits some e (after .fits)
+
+    by-length : (t : Bool) → leb 1 (length log) ≡ t → (1 ≤ length log → Kept (next us player buffer log room fits) (rest us player buffer log room fits)) → Kept player (played us player buffer log room)
+    by-length true e after = let some = leb-true 1 (length log) e in by-halt some (halts room player) refl (after some)
+    by-length false e after = kept-end us player buffer log room fits (omega (arith, leb-false 1 (length log) e))
+
+-- the block that a call leaves is the player after it
+block-kept : (block : List ℕ) (s : Span) → Kept (playerOf block) s → playerOf (playerAfter s block) ≡ s .player
+block-kept block s kept = go (eqb (s .read) 0) refl
+  where
+    go : (t : Bool) → eqb (s .read) 0 ≡ t → playerOf (cond t block (numbersOf (s .player))) ≡ s .player
+    go true e = sym (kept .same (eqb-true (s .read) 0 e))
+    go false e = player-crosses (s .player) (kept .fits)
+
+pub heard-crosses : HeardCrosses
+unfolding heardInC Replay.heard
+heard-crosses us block buffer log [] are = refl
+heard-crosses us block buffer log (c ∷ cs) are =
+    let s = callIn us block buffer log c in
+    let part = take (c .size) log in
+    let kept = block-kept block s (span-fits (length part) us (playerOf block) buffer part (length (c .out)) (omega arith) (state-fits block) (are-take (c .size) log are)) in
+    ap (joinedTo (Replay.textBy s c))
+    (heard-crosses us (playerAfter s block) (s .buffer) (drop (s .read) log) cs (are-drop (s .read) log are)
+    ∙ ap (λ (p : Player). inC (Replay.heard us p (s .buffer) (drop (s .read) log) cs)) kept)
+
+pub any-chunks-exported : AnyChunksExported
+any-chunks-exported us block buffer log cs first last long are chunked all =
+    let starts : playerOf block ≡ starting = starts-at block first last in
+    let crosses = heard-crosses us block buffer log cs are in
+    let text-is = ap (λ (h : HeardInC). h .text) crosses in
+    let rest-is = ap (λ (h : HeardInC). h .rest) crosses in
+    text-is
+    ∙ ap (λ (p : Player). Replay.heard us p buffer log cs .text) starts
+    ∙ any-chunks us buffer log cs long (subst (λ (p : Player). Replay.Chunked us p buffer log cs) starts chunked)
+    (ap (λ (p : Player). Replay.heard us p buffer log cs .rest) (sym starts) ∙ sym rest-is ∙ all)
