@@ -2,8 +2,9 @@
 --     player-crosses       a player survives the way through it
 --     span-fits            the state after any records of bytes carries words that fit
 --     block-kept           so the block that a call leaves is the player after it
---     heard-crosses        and calls over blocks are calls over players
---     any-chunks-exported  of which the texts joined are the log's lines
+--     session-crosses      and calls over blocks are calls over players
+--     nothing-lost-exported, any-chunks-exported   of which no line is lost, and the texts joined are the log's lines
+--     record-crosses       the same of the state's block, record by record
 -- Assumes nothing.
 use Prim.Native.Nat.{ℕ, zero, suc, _+_, _-_, _≤_, _<_}
 use mathlib.Core.Bool.{Bool, true, false, cond}
@@ -13,7 +14,6 @@ use borrow.Author.Tests.{eq-eqb, eqb-true, leb-true, leb-false, ltb-true, ltb-fa
 use native.Mathlib.Omega.{arith}
 use lib.Dec.{eqb, leb, ltb}
 use lib.ListN.{length, take, drop, getD, length-drop}
-use lib.Seq.{getD-drop}
 use Rattle.le.specs.Word.{AreBytes}
 use Rattle.framelog.specs.Layout.{recordSize, cutOf}
 use Rattle.framelog.specs.Reading.{readOf}
@@ -27,13 +27,14 @@ use Rattle.replay.specs.Day.{playOf}
 use Rattle.replay.specs.Statements as Replay
 use Rattle.replay.specs.declared.Player.{Player}
 use Rattle.replay.proofs.Days.{any-chunks}
-use Rattle.replay.proofs.Logs.{none-of, some-part}
+use Rattle.replay.proofs.Logs.{none-of, some-part, are-drop, are-take}
+use Rattle.replay.proofs.Parts.{nothing-lost}
 use Rattle.replay.proofs.Playing.{is-skipped, is-run}
 use Rattle.replay.proofs.Spans.{at-end, halted, goes-on}
 use Rattle.hoursquall.specs.Reassembly.{stateOf, blockOf}
-use Rattle.hoursquall.specs.Replay.{playerOf, numbersOf, playerAfter}
-use Rattle.hoursquall.specs.Statements.{StateFits, PlayerCrosses, HeardInC, joinedTo, callIn, heardInC, HeardCrosses, AnyChunksExported}
-use Rattle.hoursquall.proofs.Theorems.{state-crosses, state-fits, step-crosses}
+use Rattle.hoursquall.specs.Replay.{stagedIn, leftBy, playerOf, numbersOf, playerAfter}
+use Rattle.hoursquall.specs.Statements.{StateFits, PlayerCrosses, callIn, sessionInC, SessionCrosses, NothingLostExported, AnyChunksExported, RecordCrosses}
+use Rattle.hoursquall.proofs.Theorems.{state-crosses, state-fits, step-crosses, block-crosses}
 
 -- what follows a state's block does not count
 behind-block : (s : State) (n : ℕ) → stateOf (blockOf s ++ (n ∷ [])) ≡ stateOf (blockOf s)
@@ -56,19 +57,6 @@ player-crosses p fits = ap₂ playing (behind-block (p .state) (p .number) ∙ s
 starts-at : (block : List ℕ) → getD block 0 0 ≡ 0 → getD block 8 0 ≡ 0 → playerOf block ≡ starting
 unfolding stateOf playing
 starts-at block first last = ap₂ playing (rw (eq-eqb (getD block 0 0) 0 first)) last
-
-abbrev inC : Replay.Heard → HeardInC
-inC h = record { text = h .text; rest = h .rest }
-
--- parts of bytes are bytes
-are-drop : (n : ℕ) (s : List ℕ) → AreBytes s → AreBytes (drop n s)
-are-drop n s are i = rw (getD-drop n s i 0) (are (n + i))
-
-are-take : (n : ℕ) (s : List ℕ) → AreBytes s → AreBytes (take n s)
-are-take zero s are i = omega arith
-are-take (suc n) [] are i = are i
-are-take (suc n) (b ∷ s) are zero = are zero
-are-take (suc n) (b ∷ s) are (suc i) = are-take n s (λ j. are (suc j)) i
 
 -- a record of bytes leaves a state whose words fit
 stage-fits : (us : ℕ) (state : State) (buffer r : List ℕ) → StateFits state → AreBytes r → StateFits (playOf us state buffer r .answer .state)
@@ -134,24 +122,37 @@ block-kept block s kept = go (eqb (s .read) 0) refl
     go true e = sym (kept .same (eqb-true (s .read) 0 e))
     go false e = player-crosses (s .player) (kept .fits)
 
-pub heard-crosses : HeardCrosses
-unfolding heardInC Replay.heard
-heard-crosses us block buffer log [] are = refl
-heard-crosses us block buffer log (c ∷ cs) are =
+pub session-crosses : SessionCrosses
+unfolding sessionInC Replay.session
+session-crosses us block buffer log [] are = refl
+session-crosses us block buffer log (c ∷ cs) are =
     let s = callIn us block buffer log c in
     let part = take (c .size) log in
     let kept = block-kept block s (span-fits (length part) us (playerOf block) buffer part (length (c .out)) (omega arith) (state-fits block) (are-take (c .size) log are)) in
-    ap (joinedTo (Replay.textBy s c))
-    (heard-crosses us (playerAfter s block) (s .buffer) (drop (s .read) log) cs (are-drop (s .read) log are)
-    ∙ ap (λ (p : Player). inC (Replay.heard us p (s .buffer) (drop (s .read) log) cs)) kept)
+    ap (Replay.after (Replay.textBy s c))
+    (session-crosses us (playerAfter s block) (s .buffer) (drop (s .read) log) cs (are-drop (s .read) log are)
+    ∙ ap (λ (p : Player). Replay.session us p (s .buffer) (drop (s .read) log) cs) kept)
+
+pub nothing-lost-exported : NothingLostExported
+nothing-lost-exported us block buffer log cs are chunked =
+    ap (λ (h : Replay.Session). h .text ++ Replay.linesLeft us (h .player) (h .buffer) (h .rest)) (session-crosses us block buffer log cs are)
+    ∙ nothing-lost us (playerOf block) buffer log cs chunked
 
 pub any-chunks-exported : AnyChunksExported
 any-chunks-exported us block buffer log cs first last long are chunked all =
     let starts : playerOf block ≡ starting = starts-at block first last in
-    let crosses = heard-crosses us block buffer log cs are in
-    let text-is = ap (λ (h : HeardInC). h .text) crosses in
-    let rest-is = ap (λ (h : HeardInC). h .rest) crosses in
-    text-is
-    ∙ ap (λ (p : Player). Replay.heard us p buffer log cs .text) starts
+    let crosses = session-crosses us block buffer log cs are in
+    ap (λ (h : Replay.Session). h .text) crosses
+    ∙ ap (λ (p : Player). Replay.session us p buffer log cs .text) starts
     ∙ any-chunks us buffer log cs long (subst (λ (p : Player). Replay.Chunked us p buffer log cs) starts chunked)
-    (ap (λ (p : Player). Replay.heard us p buffer log cs .rest) (sym starts) ∙ sym rest-is ∙ all)
+    (ap (λ (p : Player). Replay.session us p buffer log cs .rest) (sym starts) ∙ sym (ap (λ (h : Replay.Session). h .rest) crosses) ∙ all)
+
+pub record-crosses : RecordCrosses
+record-crosses us lent slice are = by (readOf recordSize slice) refl
+  where
+    by : (x : Logged) → readOf recordSize slice ≡ x → stateOf (leftBy us lent slice .block) ≡ stagedIn us lent slice .answer .state
+    by (Refused reason) e = rw (is-skipped us (stateOf (lent .block)) (lent .buffer) slice reason e)
+    by (Frame n) e =
+        let f = cutOf n slice in
+        let fits = step-crosses (lent .words) us (stateOf (lent .block)) (state-fits (lent .block)) (lent .buffer) f (are-take n (drop 4 slice) (are-drop 4 slice are)) in
+        rw (is-run us (stateOf (lent .block)) (lent .buffer) slice n e) (block-crosses us lent f (fits .fits))

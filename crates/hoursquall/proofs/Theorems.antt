@@ -179,7 +179,7 @@ pub refusal-leaves-lent : RefusalLeavesLent
 refusal-leaves-lent us lent f = leaves-lent us lent f (stepped us lent f .answer .verdict) refl .1
 
 -- the block that a call leaves is the state after it
-block-crosses : (us : ℕ) (lent : Lent) (f : List ℕ) → StateFits (stepped us lent f .answer .state) → stateOf (left us lent f .block) ≡ stepped us lent f .answer .state
+pub block-crosses : (us : ℕ) (lent : Lent) (f : List ℕ) → StateFits (stepped us lent f .answer .state) → stateOf (left us lent f .block) ≡ stepped us lent f .answer .state
 block-crosses us lent f fits = go (isUnread (answered us lent f)) refl
   where
     go : (t : Bool) → isUnread (answered us lent f) ≡ t → stateOf (cond t (lent .block) (blockOf (stepped us lent f .answer .state))) ≡ stepped us lent f .answer .state

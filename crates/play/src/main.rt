@@ -1,12 +1,13 @@
 // Plays a recorded day: play RECEIVER LOG
 //
 // RECEIVER is a file of four bytes, the Receiver ID. LOG is a frame log. A line is written for each of its records. A
-// file that is missing or cannot be read counts as empty, and so does one that is not named.
+// file that is missing or cannot be opened counts as empty, and so does one that is not named. A log that cannot be read
+// on ends there.
 use libc::STDOUT_FILENO;
 use replay::Player;
 use replay::Receiver;
 
-// The input's buffer: 252 records, so that what is read ends at a record's end, but for the log's end.
+// The input's buffer: 252 records, so that what fills it ends at a record's end. What does not fill it is the log's end.
 const CHUNK: usize = 65520;
 // The output's: room for the longest line of each of them, so that one call plays them all.
 const TEXT: usize = 11844;
@@ -85,11 +86,8 @@ fn play_log(fd: i32, us: u32) {
     let mut turns = u64::MAX;
     while turns > 0 {
         let n = io::read_full(fd, &mut chunk);
-        if n == 0 {
-            return;
-        }
         let turn = play_part(player, &chunk[..n], us, &mut buffer, &mut text);
-        if !turn.goes_on {
+        if !turn.goes_on || n < CHUNK {
             return;
         }
         let next = turn.player;

@@ -1,11 +1,11 @@
--- The theorems of `specs/Statements.antt` on whole days: `records-are`, `frames-run`, `day-hands-up`, `day-lists`, `refused-apart`, `any-buffer`, `any-chunks`.
+-- The theorems of `specs/Statements.antt` on whole days, and of days in parts `any-chunks` and `output-is`.
 -- Assumes nothing.
 use Prim.Native.Nat.{ℕ, zero, suc, _+_, _≤_}
 use mathlib.Core.Bool.{Bool, true, false}
 use mathlib.Core.Path.{_≡_, refl, sym, ap, ap₂, subst, _∙_}
 use mathlib.Core.List.{List, [], _∷_, _++_, map, flatten, filterMap, append-nil}
 use mathlib.Core.Option.{Option, none, some}
-use borrow.Author.Tests.{leb-true, leb-false}
+use borrow.Author.Tests.{ne-eqb, leb-true, leb-false}
 use native.Mathlib.Omega.{arith}
 use lib.Dec.{leb}
 use lib.ListN.{length, take, drop, length-append, length-drop, length-replicate, take-append-drop}
@@ -16,30 +16,34 @@ use Rattle.framelog.specs.Layout.{recordSize, recordOf, cutOf, zeros}
 use Rattle.framelog.specs.Reading.{readOf, frameAfter}
 use Rattle.framelog.specs.Statements.{ReadsBackAs}
 use Rattle.framelog.specs.Writing.{written, sliceAfter}
+use Rattle.framelog.specs.declared.Reason.{Reason}
+use Rattle.framelog.specs.declared.Reason.the-variants.{WrongSize}
 use Rattle.framelog.specs.declared.Logged.{Logged}
 use Rattle.framelog.specs.declared.Logged.the-variants.{Frame, Refused}
 use Rattle.framelog.specs.declared.Written.{Written}
-use Rattle.framelog.proofs.Answers.{record-length}
+use Rattle.framelog.proofs.Answers.{wrong-size, record-length}
 use Rattle.framelog.proofs.Theorems.{size-in-use, writes-each, reads-back}
 use Rattle.reassembly.specs.Step.{Stepped, stepOf}
-use Rattle.reassembly.specs.Run.{HandedUp, handedUp, answers, upBy, run, verdicts}
-use Rattle.reassembly.specs.Statements.{Agree}
+use Rattle.reassembly.specs.Run.{HandedUp, answers, upBy, messages}
+use Rattle.reassembly.specs.Statements.{Agree, NotBad}
 use Rattle.reassembly.specs.Traffic.{calls, expected}
 use Rattle.reassembly.specs.declared.Answer.{Answer}
 use Rattle.reassembly.specs.declared.State.{State}
 use Rattle.reassembly.specs.declared.State.the-variants.{Fresh}
-use Rattle.reassembly.specs.declared.Verdict.{Verdict}
 use Rattle.reassembly.specs.declared.Verdict.the-variants.{More, Delivered, Refused as Stopped}
 use Rattle.reassembly.proofs.Outcome.{step-agrees}
+use Rattle.reassembly.proofs.Answers.{fresh}
+use Rattle.reassembly.proofs.Corollaries.{exactly-these, never-bad}
 use Rattle.reassembly.proofs.Theorem.{demand-3}
 use Rattle.replay.specs.Log.{records, logOf}
 use Rattle.replay.specs.Day.{Stage, skipped, ran, playOf, stages, entries, cleared, listed}
-use Rattle.replay.specs.Lines.{linesFrom, lines}
+use Rattle.replay.specs.Lines.{linesFrom, receiverOf, outputFor}
 use Rattle.replay.specs.Chunk.{starting}
-use Rattle.replay.specs.Statements.{RecordsAre, Loggable, FramesRun, upOf, upAshore, DayHandsUp, Delivery, deliveryIn, deliveryOf, DayLists, answerIn, frameIn, RefusedApart, AnyBuffer, heard, linesLeft, AnyChunks}
+use Rattle.replay.specs.Statements.{RecordsAre, Loggable, ShortRefused, FramesRun, FramesListed, upOf, upOfStage, DayHandsUp, DayExactly, Delivery, deliveryIn, deliveryOf, DayLists, stepOfStage, frameIn, RefusedApart, refusalIn, refusalOf, OwnNumbers, DamagedDay, DayNeverBad, AnyBuffer, session, linesLeft, AnyChunks, OutputIs, FiveBytes}
 use Rattle.replay.specs.declared.Entry.{Entry}
 use Rattle.replay.specs.declared.Entry.the-variants.{Unread, Run}
 use Rattle.replay.specs.declared.Player.{Player}
+use Rattle.replay.specs.declared.Receiver.{Receiver}
 use Rattle.replay.proofs.Logs.{no-records, first-record, none-of}
 use Rattle.replay.proofs.Playing.{is-skipped, is-run}
 use Rattle.replay.proofs.Parts.{nothing-lost}
@@ -95,15 +99,26 @@ run-all us state buffer (f ∷ fs) fit =
 pub frames-run : FramesRun
 frames-run us state buffer frames fit = ap (stages us state buffer) (log-records frames fit) ∙ run-all us state buffer frames fit
 
-up-ran : (ss : List Stepped) → map upAshore (map ran ss) ≡ map upBy ss
+listed-all : (ss : List Stepped) → map (λ s. s .answer .entry) (map ran ss) ≡ map Run (map (λ st. st .answer .verdict) ss)
+listed-all [] = refl
+listed-all (s ∷ ss) = ap (λ (es : List Entry). Run (s .answer .verdict) ∷ es) (listed-all ss)
+
+pub frames-listed : FramesListed
+frames-listed us frames fit = ap (map (λ s. s .answer .entry)) (frames-run us Fresh cleared frames fit) ∙ listed-all (answers us Fresh cleared frames)
+
+up-ran : (ss : List Stepped) → map upOfStage (map ran ss) ≡ map upBy ss
 up-ran [] = refl
 up-ran (s ∷ ss) = ap (λ (l : List (Option HandedUp)). upBy s ∷ l) (up-ran ss)
 
 pub day-hands-up : DayHandsUp
 day-hands-up us buffer traffic legal fit =
-    ap (map upAshore) (frames-run us Fresh buffer (calls us traffic) fit)
+    ap (map upOfStage) (frames-run us Fresh buffer (calls us traffic) fit)
     ∙ up-ran (answers us Fresh buffer (calls us traffic))
     ∙ demand-3 us buffer traffic legal
+
+pub day-exactly : DayExactly
+day-exactly us buffer traffic legal fit =
+    ap messages (day-hands-up us buffer traffic legal fit ∙ sym (demand-3 us buffer traffic legal)) ∙ exactly-these us buffer traffic legal
 
 delivery-up : (e : Entry) (buffer : List ℕ) → deliveryIn e ≡ deliveryOf (upOf e buffer)
 delivery-up (Unread reason) buffer = refl
@@ -111,7 +126,7 @@ delivery-up (Run More) buffer = refl
 delivery-up (Run (Delivered w n)) buffer = refl
 delivery-up (Run (Stopped reason)) buffer = refl
 
-deliveries-up : (ss : List Stage) → map deliveryIn (map (λ s. s .answer .entry) ss) ≡ map deliveryOf (map upAshore ss)
+deliveries-up : (ss : List Stage) → map deliveryIn (map (λ s. s .answer .entry) ss) ≡ map deliveryOf (map upOfStage ss)
 deliveries-up [] = refl
 deliveries-up (s ∷ ss) = ap₂ _∷_ (delivery-up (s .answer .entry) (s .buffer)) (deliveries-up ss)
 
@@ -127,12 +142,39 @@ refused-apart us state buffer [] = refl
 refused-apart us state buffer (r ∷ rs) = by (readOf recordSize r) refl (λ st b. refused-apart us st b rs)
   where
     by : (x : Logged) → readOf recordSize r ≡ x
-        → ((st : State) (b : List ℕ) → filterMap answerIn (entries us st b rs) ≡ verdicts us st b (filterMap frameIn rs))
-        → filterMap answerIn (entries us state buffer (r ∷ rs)) ≡ verdicts us state buffer (filterMap frameIn (r ∷ rs))
+        → ((st : State) (b : List ℕ) → filterMap stepOfStage (stages us st b rs) ≡ answers us st b (filterMap frameIn rs))
+        → filterMap stepOfStage (stages us state buffer (r ∷ rs)) ≡ answers us state buffer (filterMap frameIn (r ∷ rs))
     by (Refused reason) e rest = rw (e, is-skipped us state buffer r reason e) (rest state buffer)
     by (Frame n) e rest =
         let st = stepOf us state buffer (cutOf n r) in
-        rw (e, is-run us state buffer r n e) (ap (λ (vs : List Verdict). st .answer .verdict ∷ vs) (rest (st .answer .state) (st .buffer)))
+        rw (e, is-run us state buffer r n e) (ap (λ (ss : List Stepped). st ∷ ss) (rest (st .answer .state) (st .buffer)))
+
+pub own-numbers : OwnNumbers
+unfolding stages
+own-numbers us state buffer [] = refl
+own-numbers us state buffer (r ∷ rs) = by (readOf recordSize r) refl (λ st b. own-numbers us st b rs)
+  where
+    by : (x : Logged) → readOf recordSize r ≡ x
+        → ((st : State) (b : List ℕ) → map refusalIn (entries us st b rs) ≡ map (λ q. refusalOf (readOf recordSize q)) rs)
+        → map refusalIn (entries us state buffer (r ∷ rs)) ≡ map (λ q. refusalOf (readOf recordSize q)) (r ∷ rs)
+    by (Refused reason) e rest =
+        rw (e, is-skipped us state buffer r reason e) (ap (λ (l : List (Option Reason)). some reason ∷ l) (rest state buffer))
+    by (Frame n) e rest =
+        let st = stepOf us state buffer (cutOf n r) in
+        rw (e, is-run us state buffer r n e) (ap (λ (l : List (Option Reason)). none ∷ l) (rest (st .answer .state) (st .buffer)))
+
+pub short-refused : ShortRefused
+short-refused us state buffer slice other = is-skipped us state buffer slice WrongSize (wrong-size recordSize slice other)
+
+pub damaged-day : DamagedDay
+damaged-day us buffer traffic rs legal readable =
+    ap (map upBy) (refused-apart us Fresh buffer rs ∙ ap (answers us Fresh buffer) readable) ∙ demand-3 us buffer traffic legal
+
+pub day-never-bad : DayNeverBad
+day-never-bad us log =
+    let frames = filterMap frameIn (records log) in
+    subst (λ (ss : List Stepped). All NotBad (map (λ st. st .answer .verdict) ss)) (sym (refused-apart us Fresh cleared (records log)))
+    (never-bad us Fresh cleared frames (fresh (length cleared)))
 
 -- buffers that agree on what is open give the same entries
 agree-on : (us : ℕ) (state : State) (b c : List ℕ) (rs : List (List ℕ)) → Agree state b c → entries us state b rs ≡ entries us state c rs
@@ -163,9 +205,25 @@ no-lines us player buffer = ap (λ (rs : List (List ℕ)). linesFrom (player .nu
 
 pub any-chunks : AnyChunks
 any-chunks us buffer log cs long chunked all =
-    let h = heard us starting buffer log cs in
+    let h = session us starting buffer log cs in
     let none-left : linesLeft us (h .player) (h .buffer) (h .rest) ≡ [] = ap (linesLeft us (h .player) (h .buffer)) all ∙ no-lines us (h .player) (h .buffer) in
     sym (append-nil (h .text))
     ∙ ap (λ (l : List ℕ). h .text ++ l) (sym none-left)
     ∙ nothing-lost us starting buffer log cs chunked
     ∙ ap (linesFrom 0) (any-buffer us buffer cleared (records log) (long ∙ sym (length-replicate {A = ℕ} messageMax 0)))
+
+pub output-is : OutputIs
+output-is file log = (
+  (λ missing. ap (λ (r : Receiver). outputFor r log) missing),
+  (λ us buffer cs known long chunked all. any-chunks us buffer log cs long chunked all ∙ sym (ap (λ (r : Receiver). outputFor r log) known)),
+)
+
+-- a list of five or more is no list of four, and any other is whole
+pub five-bytes : FiveBytes
+unfolding receiverOf
+five-bytes [] = refl
+five-bytes (a ∷ []) = refl
+five-bytes (a ∷ b ∷ []) = refl
+five-bytes (a ∷ b ∷ c ∷ []) = refl
+five-bytes (a ∷ b ∷ c ∷ d ∷ []) = refl
+five-bytes (a ∷ b ∷ c ∷ d ∷ e ∷ file) = sym (rw (ne-eqb (length (a ∷ b ∷ c ∷ d ∷ e ∷ file)) 4 (λ q. omega (arith, q))))

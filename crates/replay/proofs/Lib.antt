@@ -5,3 +5,4 @@ pub mod Texts
 pub mod Spans
 pub mod Parts
 pub mod Days
+pub mod Rooms

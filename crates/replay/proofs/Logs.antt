@@ -10,8 +10,11 @@ use mathlib.Core.Path.{_≡_, refl, sym, ap, _∙_}
 use mathlib.Core.List.{List, [], _∷_}
 use native.Mathlib.Omega.{arith}
 use lib.ListN.{length, take, drop, length-drop}
+use lib.Seq.{getD-drop}
+use Rattle.le.specs.Word.{AreBytes}
 use Rattle.framelog.specs.Layout.{recordSize}
 use Rattle.replay.specs.Log.{cutIn, records}
+use Rattle.replay.specs.Statements.{FirstRecord, NoRecords}
 
 none-cut : (most size : ℕ) → cutIn most size [] ≡ []
 unfolding cutIn
@@ -39,10 +42,10 @@ pub none-of : (s : List ℕ) → length s ≤ 0 → s ≡ []
 none-of [] h = refl
 none-of (b ∷ s) h = absurd (omega arith)
 
-pub no-records : (log : List ℕ) → log ≡ [] → records log ≡ []
+pub no-records : NoRecords
 no-records log e = ap records e ∙ none-cut 0 recordSize
 
-pub first-record : (log : List ℕ) → 1 ≤ length log → records log ≡ take recordSize log ∷ records (drop recordSize log)
+pub first-record : FirstRecord
 unfolding cutIn
 first-record [] some = absurd (omega arith)
 first-record (b ∷ log) some =
@@ -68,3 +71,13 @@ pub part-inside : (read : ℕ) (log part : List ℕ) → part ≡ take recordSiz
 part-inside read log part is more =
     let left = length-drop read log in
     rw is (some-part 259 (drop read log) (omega arith), omega (arith, length-part recordSize (drop read log)))
+
+-- parts of bytes are bytes
+pub are-drop : (n : ℕ) (s : List ℕ) → AreBytes s → AreBytes (drop n s)
+are-drop n s are i = rw (getD-drop n s i 0) (are (n + i))
+
+pub are-take : (n : ℕ) (s : List ℕ) → AreBytes s → AreBytes (take n s)
+are-take zero s are i = omega arith
+are-take (suc n) [] are i = are i
+are-take (suc n) (b ∷ s) are zero = are zero
+are-take (suc n) (b ∷ s) are (suc i) = are-take n s (λ j. are (suc j)) i

@@ -15,7 +15,7 @@ use Rattle.replay.specs.Log.{records}
 use Rattle.replay.specs.Day.{Stage, playOf, stages, entries}
 use Rattle.replay.specs.Lines.{lineOf, linesFrom}
 use Rattle.replay.specs.Chunk.{lineMax, numberMax, Span, nothing, behind, halts, lineFor, nextPlayer, spanOf, played, answerOf}
-use Rattle.replay.specs.Statements.{SpanInside, SpanMoves, Call, spanBy, textBy, Heard, heard, Chunked, linesLeft, NothingLost}
+use Rattle.replay.specs.Statements.{SpanInside, SpanMoves, Call, spanBy, textBy, Session, session, Chunked, linesLeft, NothingLost}
 use Rattle.replay.specs.declared.Listed.{Listed}
 use Rattle.replay.specs.declared.Player.{Player}
 use Rattle.replay.proofs.Logs.{no-records, first-record, behind-record, length-part, some-part, none-of}
@@ -56,7 +56,7 @@ text-goes-on us player buffer room (r ∷ rs) qs =
         ∙ ap (λ (l : List ℕ). lineFor player (playOf us (player .state) buffer r) ++ l) e
 
 -- a part and what follows it: whole records, or nothing follows
-abbrev Whole : List ℕ → List ℕ → Type 0
+abbrev pub Whole : List ℕ → List ℕ → Type 0
 Whole part tail = (length part % recordSize ≡ 0) ⊎ (tail ≡ [])
 
 -- the same of the part behind its first record
@@ -67,14 +67,14 @@ module _ (part tail : List ℕ) (some : 1 ≤ length part) where
   first-some : 1 ≤ length first
   first-some = some-part 259 part some
 
-  whole-behind : Whole part tail → Whole (drop (length first) part) tail
+  pub whole-behind : Whole part tail → Whole (drop (length first) part) tail
   whole-behind (inl even) =
       let long : recordSize ≤ length part = omega arith in
       let full : length first ≡ recordSize = length-take-le recordSize part long in
       inl (rw (length-drop (length first) part) (omega arith))
   whole-behind (inr none) = inr none
 
-join : (k : ℕ) (part tail : List ℕ) → length part ≤ k → Whole part tail → records (part ++ tail) ≡ records part ++ records tail
+pub join : (k : ℕ) (part tail : List ℕ) → length part ≤ k → Whole part tail → records (part ++ tail) ≡ records part ++ records tail
 join k part tail h (inr none) =
     rw (none, append-nil part, no-records [] refl) (sym (append-nil (records part)))
 join zero part tail h (inl even) = let empty : part ≡ [] = none-of part (omega arith) in rw (empty, no-records [] refl)
@@ -187,7 +187,7 @@ span-moves us player buffer log room some fits left =
     rw (goes-on us player buffer log room some goes) (omega (arith, first-some log [] some))
 
 -- one call: its text, and the lines of what is left, are the lines of all
-whole-call : (size : ℕ) (log : List ℕ) → (size % recordSize ≡ 0) ⊎ (length log ≤ size) → Whole (take size log) (drop size log)
+pub whole-call : (size : ℕ) (log : List ℕ) → (size % recordSize ≡ 0) ⊎ (length log ≤ size) → Whole (take size log) (drop size log)
 whole-call size log (inr all) = inr (drop-of-length-le log {i = size} all)
 whole-call size log (inl even) = by (leb size (length log)) refl
   where
@@ -219,11 +219,11 @@ text-found : (s : Span) (c : Call) → textBy s c ≡ s .text
 text-found s c = take-at (s .text) (drop (length (s .text)) (c .out)) (length (s .text)) refl
 
 pub nothing-lost : NothingLost
-unfolding heard Chunked
+unfolding session Chunked
 nothing-lost us player buffer log [] chunked = refl
 nothing-lost us player buffer log (c ∷ cs) chunked =
     let s = spanBy us player buffer log c in
-    let next = heard us (s .player) (s .buffer) (drop (s .read) log) cs in
+    let next = session us (s .player) (s .buffer) (drop (s .read) log) cs in
     let to-come = linesLeft us (next .player) (next .buffer) (next .rest) in
     append-assoc (textBy s c) (next .text) to-come
     ∙ ap₂ (λ (a b : List ℕ). a ++ b) (text-found s c) (nothing-lost us (s .player) (s .buffer) (drop (s .read) log) cs (chunked .1))

@@ -41,20 +41,21 @@ nothing player buffer = record { read = 0; text = []; player = player; buffer = 
 abbrev pub behind : ℕ → List ℕ → Span → Span
 behind read text s = record { read = read + s .read; text = text ++ s .text; player = s .player; buffer = s .buffer }
 
--- before a record, where the output has so much room left
+-- whether a record is not played, where the output has so much room left
 abbrev pub halts : ℕ → Player → Bool
 halts room player = ltb room lineMax || leb numberMax (player .number)
 
 abbrev pub playerAfter : ℕ → State → Player
 playerAfter number state = record { state = state; number = suc number }
 
--- the record that is played, with its line, before the others
+-- the line of a record that is played, and the player after it
 abbrev pub lineFor : Player → Stage → List ℕ
 lineFor player s = lineOf (player .number) (s .answer .entry)
 
 abbrev pub nextPlayer : Player → Stage → Player
 nextPlayer player s = playerAfter (player .number) (s .answer .state)
 
+-- the records of a part, one after another, with so much room left for their lines
 unfoldable pub spanOf : ℕ → Player → List ℕ → ℕ → List (List ℕ) → Span
 spanOf us player buffer room [] = nothing player buffer
 spanOf us player buffer room (r ∷ rs) =

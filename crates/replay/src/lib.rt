@@ -72,7 +72,7 @@ impl Player {
 }
 
 // A frame that is run.
-fn run_frame(state: State, frame: &[u8], us: u32, buffer: &mut [u8; 4096]) -> Played
+fn run_frame(state: State, frame: &[u8], us: u32, buffer: &mut [u8; BUFFER_SIZE]) -> Played
     ensures { λ r. ⌜ r ≡ ran (stepOf us state (now (buffer .entry)) (now (frame .entry))) .answer ⌝ }
     ensures { λ r. ⌜ EntryBounded (r .entry) ⌝ }
     ensures { λ _. ⌜ now (buffer .exit) ≡ ran (stepOf us state (now (buffer .entry)) (now (frame .entry))) .buffer ⌝ }
@@ -87,7 +87,7 @@ fn run_frame(state: State, frame: &[u8], us: u32, buffer: &mut [u8; 4096]) -> Pl
 }
 
 // Plays one record: its frame is run, unless the record is refused.
-pub fn play(state: State, slice: &[u8], us: u32, buffer: &mut [u8; 4096]) -> Played
+pub fn play(state: State, slice: &[u8], us: u32, buffer: &mut [u8; BUFFER_SIZE]) -> Played
     ensures { λ r. ⌜ r ≡ playOf us state (now (buffer .entry)) (now (slice .entry)) .answer ⌝ }
     ensures { λ r. ⌜ EntryBounded (r .entry) ⌝ }
     ensures { λ _. ⌜ now (buffer .exit) ≡ playOf us state (now (buffer .entry)) (now (slice .entry)) .buffer ⌝ }
@@ -194,7 +194,7 @@ fn play_line(
     player: Player,
     slice: &[u8],
     us: u32,
-    buffer: &mut [u8; 4096],
+    buffer: &mut [u8; BUFFER_SIZE],
     at: usize,
     out: &mut [u8],
 ) -> Line
@@ -220,14 +220,14 @@ fn play_line(
 }
 
 // Plays a part of a log, and lists its records as text at the start of the output, up to the end of the part or to the
-// first record before which the output has no room for the longest line. That record and those behind it are as if
-// they had not been handed in: the caller hands them in again, so that nothing is lost or played twice. A part that is
-// not the log's last ends at a record's end.
+// first record before which the output has no room for the longest line, or for which no number is left. That record
+// and those behind it are as if they had not been handed in: the caller hands them in again, so that nothing is lost or
+// played twice. A part that is not the log's last ends at a record's end.
 pub fn play_chunk(
     player: Player,
     chunk: &[u8],
     us: u32,
-    buffer: &mut [u8; 4096],
+    buffer: &mut [u8; BUFFER_SIZE],
     out: &mut [u8],
 ) -> Listed
     ensures { λ r. ⌜ r ≡ answerOf (played us player (now (buffer .entry)) (now (chunk .entry)) (length (now (out .entry)))) ⌝ }

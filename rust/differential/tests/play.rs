@@ -148,6 +148,23 @@ fn missing_words() {
     report("play, missing words", 2);
 }
 
+/// An output that cannot be written is named on standard error, and nothing is claimed.
+#[test]
+fn failing_output() {
+    let folder = Folder::new("failing-output");
+    let receiver = folder.file("receiver", Some(&RECEIVER));
+    let log = log_of(&mut Random::new(175), 300 * RECORD_SIZE).bytes;
+    let log = folder.file("log", Some(&log));
+    for words in [vec![receiver.as_ref(), log.as_ref()], vec![]] {
+        let full = fs::File::create("/dev/full").expect("the device is there");
+        let output = program(&words).stdout(full).output().expect("it runs");
+        let said = String::from_utf8_lossy(&output.stderr);
+        assert!(said.starts_with("standard output: "), "{said}");
+        assert_eq!(said.lines().count(), 1, "{said}");
+    }
+    report("play, failing outputs", 2);
+}
+
 /// Lengths around that of a record, of what is read at once, and of several times that.
 #[test]
 fn lengths_of_logs() {

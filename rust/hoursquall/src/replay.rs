@@ -72,8 +72,8 @@ impl Player {
         Player::from_numbers([0; PLAYER_NUMBERS], [0; MESSAGE_MAX])
     }
 
-    /// Plays one record for receiver `us`, and counts it. Refusals of the record, in order: 50,
-    /// 52, 51, 53; they change nothing but the count. Else its frame is run: what it leads to is
+    /// Plays one record for receiver `us`, and counts it; the count stays at the largest number.
+    /// Refusals of the record, in order: 50, 52, 51, 53; they change nothing but the count. Else its frame is run: what it leads to is
     /// as in [`crate::Reassembly::step`]. A message that is delivered is the buffer's start.
     pub fn record(&mut self, record: &[u8], us: u32) -> Verdict {
         let [state @ .., number] = &mut self.numbers;
