@@ -38,11 +38,13 @@ vectors:
 
 examples:
 	$(call quietly,rt staticlib hoursquall)
+	$(call quietly,rt staticlib hoursquall_replay)
 	@scripts/examples.sh c
 	@scripts/examples.sh rust
 
 bench:
 	$(call quietly,rt staticlib hoursquall)
+	$(call quietly,rt staticlib hoursquall_replay)
 	$(call quietly,rt check play)
 	@scripts/bench.sh
 

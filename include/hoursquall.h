@@ -1,7 +1,8 @@
 /* Hoursquall: UBIOS message frames, their reassembly into messages, the notice ring,
  * UBIOS tables, SFI tables, the checksums of both, the frame log, and its replay.
  *
- * Link target/staticlib/libhoursquall.a (x86-64, System V calling convention). No release
+ * Link target/staticlib/libhoursquall.a, and libhoursquall_replay.a beside it for the
+ * functions hs_replay_ (x86-64, System V calling convention). No release
  * is out yet: what is declared here may change, as it did when byte 1 of a frame became a
  * carried word, so compile a caller anew, and keep no state of the reassembly, and no
  * player, from one build of the library to the next.

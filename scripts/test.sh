@@ -102,6 +102,10 @@ rt_ci() {
     fi
 }
 
+staticlibs() {
+    one rt staticlib hoursquall && one rt staticlib hoursquall_replay
+}
+
 examples() {
     one scripts/examples.sh c
     one scripts/examples.sh rust
@@ -132,7 +136,7 @@ if [ "$mode" = quick ]; then
 else
     part 'rt ci' rt_ci
 fi
-if part 'rt staticlib' one rt staticlib hoursquall; then
+if part 'rt staticlib' staticlibs; then
     part 'examples' examples
     part 'cargo test' cargo_test
 else

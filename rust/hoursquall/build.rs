@@ -1,16 +1,18 @@
-//! Tells the linker where the static library stands: in the folder whose full path is in
-//! `HOURSQUALL_LIB`, or else where `rt staticlib hoursquall` writes it. Until something is linked
-//! it may be missing.
+//! Tells the linker where the two static libraries stand, that of the replay and all else: in the
+//! folder whose full path is in `HOURSQUALL_LIB`, or else where `rt staticlib hoursquall` and
+//! `rt staticlib hoursquall_replay` write them. Until something is linked they may be missing.
 
 use std::env;
 use std::path::PathBuf;
 
 fn main() {
-    let archive = folder().join("libhoursquall.a");
     println!("cargo:rerun-if-env-changed=HOURSQUALL_LIB");
-    println!("cargo:rerun-if-changed={}", archive.display());
     println!("cargo:rustc-link-search=native={}", folder().display());
-    println!("cargo:rustc-link-lib=static=hoursquall");
+    for library in ["hoursquall", "hoursquall_replay"] {
+        let archive = folder().join(format!("lib{library}.a"));
+        println!("cargo:rerun-if-changed={}", archive.display());
+        println!("cargo:rustc-link-lib=static={library}");
+    }
 }
 
 fn folder() -> PathBuf {

@@ -1,3 +1,2 @@
 -- The theorems on what C keeps between calls.
 pub mod Theorems
-pub mod Chunks

@@ -2,7 +2,6 @@
 pub mod Frame
 pub mod Notice
 pub mod Reassembly
-pub mod Replay
 pub mod Sfi
 pub mod Ubios
 pub mod FrameLog

@@ -3,22 +3,18 @@
 use Prim.Native.Nat.{ℕ, _^_, _≤_, _<_}
 use mathlib.Core.Bool.{cond}
 use mathlib.Core.Path.{_≡_}
-use mathlib.Core.List.{List, [], _∷_, _++_, map}
+use mathlib.Core.List.{List, [], _∷_, map}
 use mathlib.Core.Option.{Option, none, some}
 use lib.Dec.{eqb}
-use lib.ListN.{length, take, drop, getD}
+use lib.ListN.{length, take, getD}
 use Rattle.le.specs.Word.{AreBytes}
 use Rattle.frame.specs.Framing.{All}
-use Rattle.frame.specs.Layout.{messageMax, wordsAt}
+use Rattle.frame.specs.Layout.{wordsAt}
 use Rattle.frame.specs.declared.Words.{Words}
 use Rattle.reassembly.specs.Run.{HandedUp, run, messages}
 use Rattle.reassembly.specs.Traffic.{Traffic, LegalTraffic, calls, arrived, expected}
 use Rattle.reassembly.specs.declared.State.{State}
 use Rattle.reassembly.specs.declared.State.the-variants.{Fresh, Open}
-use Rattle.replay.specs.Chunk.{Span}
-use Rattle.replay.specs.Lines.{lines}
-use Rattle.replay.specs.Statements as Replay
-use Rattle.replay.specs.declared.Player.{Player}
 use Rattle.notice.specs.declared.Positions.{Positions}
 use Rattle.notice.specs.declared.Posted.the-variants.{Stored}
 use Rattle.notice.specs.declared.Taken.the-variants.{Notice as Got}
@@ -27,7 +23,6 @@ use Rattle.notice.specs.Queue as Queue
 use Rattle.notice.specs.Queue.{Operation, Seen, accepted, rejected, given, nothing, queueStep}
 use Rattle.notice.specs.Statements.{Capacity}
 use Rattle.hoursquall.specs.Reassembly.{stateOf, blockOf, Lent, lending, answered, left}
-use Rattle.hoursquall.specs.Replay.{stagedIn, leftBy, playerOf, numbersOf, playerAfter, playedIn}
 use Rattle.hoursquall.specs.Notice.{positionsOf, positionsAfterPost, positionsAfterTake, Kept, RingCall, Told, ofPost, ofTake, toldBy, keptAfter}
 
 -- carried words that fit in a frame: the sequence number is a byte, and the others, the total too, are of 32 bits (`Fits` of `frame` says it of an envelope)
@@ -110,71 +105,6 @@ RefusalLeavesLent =
     (us : ℕ) (lent : Lent) (frame : List ℕ)
     → (1 ≤ answered us lent frame → answered us lent frame ≤ 4 → left us lent frame ≡ lent)
     × (5 ≤ answered us lent frame → answered us lent frame ≤ 11 → left us lent frame ≡ lending (blockOf Fresh) (lent .buffer) (lent .words))
-
--- `player-crosses`. A player that is written as a block and read again is that player.
-abbrev pub PlayerCrosses : Type 0
-PlayerCrosses = (p : Player) → StateFits (p .state) → playerOf (numbersOf p) ≡ p
-
--- `record-crosses`. The block that a call of `hs_replay_record` leaves is the state after it: so a run over blocks, record by record, is the run over states (`stages` of the crate `replay`).
-abbrev pub RecordCrosses : Type 0
-RecordCrosses =
-    (us : ℕ) (lent : Lent) (slice : List ℕ)
-    → AreBytes slice
-    → stateOf (leftBy us lent slice .block) ≡ stagedIn us lent slice .answer .state
-
--- the calls of `hs_replay_chunk` over a log, each with the block and the buffer as the last one left them, and handed the log from where that one stopped (see `session` of the crate `replay`):
--- the texts joined, the block and the buffer then, and what is left of the log
-pub record SessionInC : Type 0 where
-  pub text : List ℕ
-  pub block : List ℕ
-  pub buffer : List ℕ
-  pub rest : List ℕ
-
-abbrev pub joinedTo : List ℕ → SessionInC → SessionInC
-joinedTo text h = record { text = text ++ h .text; block = h .block; buffer = h .buffer; rest = h .rest }
-
-abbrev pub callIn : ℕ → List ℕ → List ℕ → List ℕ → Replay.Call → Span
-callIn us block buffer log c = playedIn us block buffer (take (c .size) log) (length (c .out))
-
-unfoldable pub sessionInC : ℕ → List ℕ → List ℕ → List ℕ → List Replay.Call → SessionInC
-sessionInC us block buffer log [] = record { text = []; block = block; buffer = buffer; rest = log }
-sessionInC us block buffer log (c ∷ cs) =
-    joinedTo (Replay.textBy (callIn us block buffer log c) c)
-    (sessionInC us (playerAfter (callIn us block buffer log c) block) (callIn us block buffer log c .buffer) (drop (callIn us block buffer log c .read) log) cs)
-
--- the session that a player has, as C sees it
-abbrev pub seenInC : SessionInC → Replay.Session
-seenInC h = record { text = h .text; player = playerOf (h .block); buffer = h .buffer; rest = h .rest }
-
--- `session-crosses`. From any block, and for any log of bytes, that is what the player that the block is gives.
-abbrev pub SessionCrosses : Type 0
-SessionCrosses =
-    (us : ℕ) (block buffer log : List ℕ) (cs : List Replay.Call)
-    → AreBytes log
-    → seenInC (sessionInC us block buffer log cs) ≡ Replay.session us (playerOf block) buffer log cs
-
--- `nothing-lost-exported`. So in C, too, what was written, and the lines of what is left, are the lines of all, after any calls that hand in whole records, or all that is left.
-abbrev pub NothingLostExported : Type 0
-NothingLostExported =
-    (us : ℕ) (block buffer log : List ℕ) (cs : List Replay.Call)
-    → AreBytes log
-    → Replay.Chunked us (playerOf block) buffer log cs
-    → sessionInC us block buffer log cs .text
-    ++ Replay.linesLeft us (playerOf (sessionInC us block buffer log cs .block)) (sessionInC us block buffer log cs .buffer) (sessionInC us block buffer log cs .rest)
-    ≡ Replay.linesLeft us (playerOf block) buffer log
-
--- `any-chunks-exported`. So a day is listed in C as `lines` has it, in whatever parts and with whatever outputs: from a block whose first and last numbers are 0, whatever stands between them and in
--- the buffer.
-abbrev pub AnyChunksExported : Type 0
-AnyChunksExported =
-    (us : ℕ) (block buffer log : List ℕ) (cs : List Replay.Call)
-    → getD block 0 0 ≡ 0
-    → getD block 8 0 ≡ 0
-    → length buffer ≡ messageMax
-    → AreBytes log
-    → Replay.Chunked us (playerOf block) buffer log cs
-    → sessionInC us block buffer log cs .rest ≡ []
-    → sessionInC us block buffer log cs .text ≡ lines us log
 
 -- `positions-cross`. The positions that a post or a take leaves in the block are those that the next call reads there.
 abbrev pub PositionsCross : Type 0

@@ -84,11 +84,14 @@ fn names(text: &str, marker: &str) -> BTreeSet<String> {
 
 #[test]
 fn what_is_exported_is_declared() {
-    let source = Path::new(env!("CARGO_MANIFEST_DIR")).join("../../crates/hoursquall/src");
+    let crates = Path::new(env!("CARGO_MANIFEST_DIR")).join("../../crates");
     let mut exported = BTreeSet::new();
-    for file in fs::read_dir(source).expect("the library's source") {
-        let text = fs::read_to_string(file.expect("a file").path()).expect("text");
-        exported.extend(names(&text, "pub extern \"C\" fn "));
+    for library in ["hoursquall", "hoursquall_replay"] {
+        let source = crates.join(library).join("src");
+        for file in fs::read_dir(source).expect("the library's source") {
+            let text = fs::read_to_string(file.expect("a file").path()).expect("text");
+            exported.extend(names(&text, "pub extern \"C\" fn "));
+        }
     }
     assert_eq!(exported, names(RAW, "pub fn "));
 }

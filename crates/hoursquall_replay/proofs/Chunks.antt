@@ -31,10 +31,11 @@ use Rattle.replay.proofs.Logs.{none-of, some-part, are-drop, are-take}
 use Rattle.replay.proofs.Parts.{nothing-lost}
 use Rattle.replay.proofs.Playing.{is-skipped, is-run}
 use Rattle.replay.proofs.Spans.{at-end, halted, goes-on}
 use Rattle.hoursquall.specs.Reassembly.{stateOf, blockOf}
-use Rattle.hoursquall.specs.Replay.{stagedIn, leftBy, playerOf, numbersOf, playerAfter}
-use Rattle.hoursquall.specs.Statements.{StateFits, PlayerCrosses, callIn, sessionInC, SessionCrosses, NothingLostExported, AnyChunksExported, RecordCrosses}
+use Rattle.hoursquall_replay.specs.Replay.{stagedIn, leftBy, playerOf, numbersOf, playerAfter}
+use Rattle.hoursquall.specs.Statements.{StateFits}
+use Rattle.hoursquall_replay.specs.Statements.{PlayerCrosses, callIn, sessionInC, SessionCrosses, NothingLostExported, AnyChunksExported, RecordCrosses}
 use Rattle.hoursquall.proofs.Theorems.{state-crosses, state-fits, step-crosses, block-crosses}
 
 -- what follows a state's block does not count
 behind-block : (s : State) (n : ℕ) → stateOf (blockOf s ++ (n ∷ [])) ≡ stateOf (blockOf s)

@@ -1,4 +1,4 @@
--- `hoursquall::replays::player_of` meets its contract: the state's numbers are read as its block is, and the number behind them.
+-- `hoursquall_replay::player_of` meets its contract: the state's numbers are read as its block is, and the number behind them.
 -- Assumes nothing.
 use Prim.Native.Nat.{ℕ}
 use mathlib.Core.Path.{_≡_, refl, ap, _∙_}
@@ -6,10 +6,10 @@ use mathlib.Core.List.{List, [], _∷_}
 use lib.ListN.{getD}
 use Rattle.reassembly.specs.declared.State.{State}
 use Rattle.replay.specs.declared.Player.{Player}
 use Rattle.hoursquall.specs.Reassembly.{stateOf}
 use borrow.Author.Needs.{needs}
-use Rattle.hoursquall.proofs.replays.player_of.Statement.{statement}
-use Rattle.hoursquall.proofs.replays.player_of.Tie as tie
+use Rattle.hoursquall_replay.proofs.player_of.Statement.{statement}
+use Rattle.hoursquall_replay.proofs.player_of.Tie as tie
 
 -- a state is read off eight numbers
 eight : (b : List ℕ)

@@ -1,8 +1,8 @@
--- `hoursquall::replays::hs_replay_chunk` meets its contract: it tells what `replay::play_chunk` answers.
+-- `hoursquall_replay::hs_replay_chunk` meets its contract: it tells what `replay::play_chunk` answers.
 -- Assumes nothing.
 use borrow.Author.Needs.{needs}
-use Rattle.hoursquall.proofs.replays.hs_replay_chunk.Statement.{statement}
-use Rattle.hoursquall.proofs.replays.hs_replay_chunk.Tie as tie
+use Rattle.hoursquall_replay.proofs.hs_replay_chunk.Statement.{statement}
+use Rattle.hoursquall_replay.proofs.hs_replay_chunk.Tie as tie
 
 returns : tie.Need-returns
 returns c =

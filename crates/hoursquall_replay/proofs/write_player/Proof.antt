@@ -1,4 +1,4 @@
--- `hoursquall::replays::write_player` meets its contract: the state's block, and the number behind it.
+-- `hoursquall_replay::write_player` meets its contract: the state's block, and the number behind it.
 -- Assumes nothing.
 use Prim.Native.Nat.{ℕ}
 use mathlib.Core.Path.{_≡_, refl}
@@ -6,10 +6,10 @@ use mathlib.Core.List.{List, [], _∷_, _++_}
 use lib.ListN.{getD}
 use Rattle.reassembly.specs.declared.State.{State}
 use Rattle.reassembly.specs.declared.State.the-variants.{Fresh, Open}
 use Rattle.hoursquall.specs.Reassembly.{blockOf}
 use borrow.Author.Needs.{needs}
-use Rattle.hoursquall.proofs.replays.write_player.Statement.{statement}
-use Rattle.hoursquall.proofs.replays.write_player.Tie as tie
+use Rattle.hoursquall_replay.proofs.write_player.Statement.{statement}
+use Rattle.hoursquall_replay.proofs.write_player.Tie as tie
 
 -- a state's block has eight numbers
 spelt : (s : State) (b : List ℕ) (n : ℕ) → b ≡ blockOf s

@@ -1,9 +1,9 @@
--- `hoursquall::replays::tell_played` meets its contract: it goes by the cases of the entry.
+-- `hoursquall_replay::tell_played` meets its contract: it goes by the cases of the entry.
 -- Assumes nothing.
 use mathlib.Core.Path.{refl}
 use borrow.Author.Needs.{needs}
-use Rattle.hoursquall.proofs.replays.tell_played.Statement.{statement}
-use Rattle.hoursquall.proofs.replays.tell_played.Tie as tie
+use Rattle.hoursquall_replay.proofs.tell_played.Statement.{statement}
+use Rattle.hoursquall_replay.proofs.tell_played.Tie as tie
 
 returns : tie.Need-returns
 returns c = rw (c .before .before .entry .given .1) (c .number .ensures, (refl, refl))

@@ -1,8 +1,8 @@
--- `hoursquall::replays::hs_replay_record` meets its contract: it tells what `replay::play` answers.
+-- `hoursquall_replay::hs_replay_record` meets its contract: it tells what `replay::play` answers.
 -- Assumes nothing.
 use borrow.Author.Needs.{needs}
-use Rattle.hoursquall.proofs.replays.hs_replay_record.Statement.{statement}
-use Rattle.hoursquall.proofs.replays.hs_replay_record.Tie as tie
+use Rattle.hoursquall_replay.proofs.hs_replay_record.Statement.{statement}
+use Rattle.hoursquall_replay.proofs.hs_replay_record.Tie as tie
 
 returns : tie.Need-returns
 returns c =

@@ -1,10 +1,10 @@
--- `hoursquall::replays::tell_listed` meets its contract: it goes by whether anything was played.
+-- `hoursquall_replay::tell_listed` meets its contract: it goes by whether anything was played.
 -- Assumes nothing.
 use mathlib.Core.Path.{refl}
 use borrow.Author.Tests.{eq-eqb, ne-eqb}
 use borrow.Author.Needs.{needs}
-use Rattle.hoursquall.proofs.replays.tell_listed.Statement.{statement}
-use Rattle.hoursquall.proofs.replays.tell_listed.Tie as tie
+use Rattle.hoursquall_replay.proofs.tell_listed.Statement.{statement}
+use Rattle.hoursquall_replay.proofs.tell_listed.Tie as tie
 
 returns : tie.Need-returns
 returns c = rw (ne-eqb _ 0 (c .before .before .if1 .taken)) (refl, (c .write-player .ensures, refl))

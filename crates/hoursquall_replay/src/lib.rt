@@ -1,7 +1,8 @@
-// A recorded day, played record by record, or part by part into text.
-use crate::messages::tell;
-use crate::state::state_of;
-use crate::state::write_state;
+// The static library of the replay: a recorded day, played record by record, or part by part into text. It is a library
+// of its own, since the compiler compiles the reassembly's step in place only where it has one caller.
+use hoursquall::messages::tell;
+use hoursquall::state::state_of;
+use hoursquall::state::write_state;
 use reassembly::Answer;
 use replay::Entry;
 use replay::Listed;
@@ -10,8 +11,8 @@ use replay::Player;
 ghost use mathlib.Core.Path.{_≡_};
 ghost use lib.ListN.{length};
 ghost use Rattle.replay.specs.Chunk.{outputAfter};
 ghost use Rattle.hoursquall.specs.Reassembly.{lending};
-ghost use Rattle.hoursquall.specs.Replay.{playedNumber, playedBlock, playedWords, stagedIn, leftBy, playerOf, numbersOf, numbersAfter, playerAfter, playedIn};
+ghost use Rattle.hoursquall_replay.specs.Replay.{playedNumber, playedBlock, playedWords, stagedIn, leftBy, playerOf, numbersOf, numbersAfter, playerAfter, playedIn};
 
 // Plays one record. `state` and `words` are as for `hs_reassembly_step`.
 #[no_mangle]

@@ -1,0 +1,2 @@
+-- The theorems on what C keeps of a replay.
+pub mod Chunks
