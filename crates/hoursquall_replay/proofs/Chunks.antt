@@ -6,20 +6,19 @@
 --     nothing-lost-exported, any-chunks-exported   of which no line is lost, and the texts joined are the log's lines
 --     record-crosses       the same of the state's block, record by record
 -- Assumes nothing.
-use Prim.Native.Nat.{ℕ, zero, suc, _+_, _-_, _≤_, _<_}
+use Prim.Native.Nat.{ℕ, _+_, _-_, _≤_}
 use mathlib.Core.Bool.{Bool, true, false, cond}
 use mathlib.Core.Path.{_≡_, refl, sym, ap, ap₂, subst, _∙_}
 use mathlib.Core.List.{List, [], _∷_, _++_}
-use borrow.Author.Tests.{eq-eqb, eqb-true, leb-true, leb-false, ltb-true, ltb-false}
+use borrow.Author.Tests.{eq-eqb, eqb-true}
 use native.Mathlib.Omega.{arith}
-use lib.Dec.{eqb, leb, ltb}
-use lib.ListN.{length, take, drop, getD, length-drop}
+use lib.Dec.{eqb}
+use lib.ListN.{length, take, drop, getD}
 use Rattle.le.specs.Word.{AreBytes}
 use Rattle.framelog.specs.Layout.{recordSize, cutOf}
 use Rattle.framelog.specs.Reading.{readOf}
 use Rattle.framelog.specs.declared.Logged.{Logged}
 use Rattle.framelog.specs.declared.Logged.the-variants.{Frame, Refused}
-use Rattle.reassembly.specs.Step.{stepOf}
 use Rattle.reassembly.specs.declared.State.{State}
 use Rattle.reassembly.specs.declared.State.the-variants.{Fresh, Open}
 use Rattle.replay.specs.Chunk.{Span, nothing, halts, starting, lineFor, nextPlayer, played}
@@ -30,7 +29,7 @@ use Rattle.replay.proofs.Days.{any-chunks}
 use Rattle.replay.proofs.Logs.{none-of, some-part, are-drop, are-take}
 use Rattle.replay.proofs.Parts.{nothing-lost}
 use Rattle.replay.proofs.Playing.{is-skipped, is-run}
-use Rattle.replay.proofs.Spans.{at-end, halted, goes-on}
+use Rattle.replay.proofs.Spans.{at-end, halted, goes-on, by-records}
 use Rattle.hoursquall.specs.Reassembly.{stateOf, blockOf}
 use Rattle.hoursquall_replay.specs.Replay.{stagedIn, leftBy, playerOf, numbersOf, playerAfter}
 use Rattle.hoursquall.specs.Statements.{StateFits}
@@ -95,25 +94,14 @@ module _ (us : ℕ) (player : Player) (buffer log : List ℕ) (room : ℕ) (fits
   kept-next some e after =
       rw (goes-on us player buffer log room some e) (record { fits = after; same = λ none. absurd (omega (arith, none, some-part 259 log some)) })
 
-span-fits : (k : ℕ) (us : ℕ) (player : Player) (buffer log : List ℕ) (room : ℕ) → length log ≤ k → StateFits (player .state) → AreBytes log
-    → Kept player (played us player buffer log room)
-span-fits zero us player buffer log room h fits are = kept-end us player buffer log room fits h
-span-fits (suc k) us player buffer log room h fits are =
-    by-length (leb 1 (length log)) refl
-    (λ some.
-    span-fits k us (next us player buffer log room fits) (playOf us (player .state) buffer (take recordSize log) .buffer) (drop (length (take recordSize log)) log)
-    (room - length (lineFor player (playOf us (player .state) buffer (take recordSize log))))
-    (rw (length-drop (length (take recordSize log)) log) (omega (arith, some-part 259 log some)))
-    (stage-fits us (player .state) buffer (take recordSize log) fits (are-take recordSize log are))
-    (are-drop (length (take recordSize log)) log are))
-  where
-    by-halt : (some : 1 ≤ length log) (t : Bool) → halts room player ≡ t → Kept (next us player buffer log room fits) (rest us player buffer log room fits) → Kept player (played us player buffer log room)
-    by-halt some true e after = kept-halt us player buffer log room fits some e
-    by-halt some false e after = kept-next us player buffer log room fits some e (after .fits)
-
-    by-length : (t : Bool) → leb 1 (length log) ≡ t → (1 ≤ length log → Kept (next us player buffer log room fits) (rest us player buffer log room fits)) → Kept player (played us player buffer log room)
-    by-length true e after = let some = leb-true 1 (length log) e in by-halt some (halts room player) refl (after some)
-    by-length false e after = kept-end us player buffer log room fits (omega (arith, leb-false 1 (length log) e))
+span-fits : (us : ℕ) (player : Player) (buffer log : List ℕ) (room : ℕ) → StateFits (player .state) → AreBytes log → Kept player (played us player buffer log room)
+span-fits us =
+    by-records us (λ player buffer log room. StateFits (player .state) → AreBytes log → Kept player (played us player buffer log room))
+    (λ player buffer log room h fits are. kept-end us player buffer log room fits h)
+    (λ player buffer log room some e fits are. kept-halt us player buffer log room fits some e)
+    (λ player buffer log room some e after fits are.
+    kept-next us player buffer log room fits some e
+    (after (stage-fits us (player .state) buffer (take recordSize log) fits (are-take recordSize log are)) (are-drop (length (take recordSize log)) log are) .fits))
 
 -- the block that a call leaves is the player after it
 block-kept : (block : List ℕ) (s : Span) → Kept (playerOf block) s → playerOf (playerAfter s block) ≡ s .player
@@ -129,7 +117,7 @@ session-crosses us block buffer log [] are = refl
 session-crosses us block buffer log (c ∷ cs) are =
     let s = callIn us block buffer log c in
     let part = take (c .size) log in
-    let kept = block-kept block s (span-fits (length part) us (playerOf block) buffer part (length (c .out)) (omega arith) (state-fits block) (are-take (c .size) log are)) in
+    let kept = block-kept block s (span-fits us (playerOf block) buffer part (length (c .out)) (state-fits block) (are-take (c .size) log are)) in
     ap (Replay.after (Replay.textBy s c))
     (session-crosses us (playerAfter s block) (s .buffer) (drop (s .read) log) cs (are-drop (s .read) log are)
     ∙ ap (λ (p : Player). Replay.session us p (s .buffer) (drop (s .read) log) cs) kept)

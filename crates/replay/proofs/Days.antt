@@ -15,7 +15,7 @@ use Rattle.frame.specs.Layout.{messageMax}
 use Rattle.framelog.specs.Layout.{recordSize, recordOf, cutOf, zeros}
 use Rattle.framelog.specs.Reading.{readOf, frameAfter}
 use Rattle.framelog.specs.Statements.{ReadsBackAs}
-use Rattle.framelog.specs.Writing.{written, sliceAfter}
+use Rattle.framelog.specs.Writing.{sliceAfter}
 use Rattle.framelog.specs.declared.Reason.{Reason}
 use Rattle.framelog.specs.declared.Reason.the-variants.{WrongSize}
 use Rattle.framelog.specs.declared.Logged.{Logged}
@@ -26,7 +26,7 @@ use Rattle.framelog.proofs.Theorems.{size-in-use, writes-each, reads-back}
 use Rattle.reassembly.specs.Step.{Stepped, stepOf}
 use Rattle.reassembly.specs.Run.{HandedUp, answers, upBy, messages}
 use Rattle.reassembly.specs.Statements.{Agree, NotBad}
-use Rattle.reassembly.specs.Traffic.{calls, expected}
+use Rattle.reassembly.specs.Traffic.{calls}
 use Rattle.reassembly.specs.declared.Answer.{Answer}
 use Rattle.reassembly.specs.declared.State.{State}
 use Rattle.reassembly.specs.declared.State.the-variants.{Fresh}
@@ -36,10 +36,10 @@ use Rattle.reassembly.proofs.Answers.{fresh}
 use Rattle.reassembly.proofs.Corollaries.{exactly-these, never-bad}
 use Rattle.reassembly.proofs.Theorem.{demand-3}
 use Rattle.replay.specs.Log.{records, logOf}
-use Rattle.replay.specs.Day.{Stage, skipped, ran, playOf, stages, entries, cleared, listed}
+use Rattle.replay.specs.Day.{Stage, ran, playOf, stages, entries, cleared}
 use Rattle.replay.specs.Lines.{linesFrom, receiverOf, outputFor}
 use Rattle.replay.specs.Chunk.{starting}
-use Rattle.replay.specs.Statements.{RecordsAre, Loggable, ShortRefused, FramesRun, FramesListed, upOf, upOfStage, DayHandsUp, DayExactly, Delivery, deliveryIn, deliveryOf, DayLists, stepOfStage, frameIn, RefusedApart, refusalIn, refusalOf, OwnNumbers, DamagedDay, DayNeverBad, AnyBuffer, session, linesLeft, AnyChunks, OutputIs, FiveBytes}
+use Rattle.replay.specs.Statements.{RecordsAre, Loggable, ShortRefused, FramesRun, FramesListed, upOf, upOfStage, DayHandsUp, DayExactly, deliveryIn, deliveryOf, DayLists, stepOfStage, frameIn, RefusedApart, refusalIn, refusalOf, OwnNumbers, DamagedDay, DayNeverBad, AnyBuffer, session, linesLeft, AnyChunks, OutputIs, FiveBytes}
 use Rattle.replay.specs.declared.Entry.{Entry}
 use Rattle.replay.specs.declared.Entry.the-variants.{Unread, Run}
 use Rattle.replay.specs.declared.Player.{Player}

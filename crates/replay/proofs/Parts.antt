@@ -1,25 +1,25 @@
 -- The theorems of `specs/Statements.antt` on parts of a log: `span-inside`, `span-moves`, `nothing-lost`.
 -- Assumes nothing.
-use Prim.Native.Nat.{ℕ, zero, suc, _+_, _-_, _*_, _%_, _≤_, _<_}
+use Prim.Native.Nat.{ℕ, zero, suc, _+_, _-_, _%_, _≤_}
 use mathlib.Core.Bool.{Bool, true, false, cond}
-use mathlib.Core.Path.{_≡_, refl, sym, ap, ap₂, subst, _∙_}
-use mathlib.Core.Logic.{_⊎_, inl, inr, ⊎-elim}
+use mathlib.Core.Path.{_≡_, refl, sym, ap, ap₂, _∙_}
+use mathlib.Core.Logic.{_⊎_, inl, inr}
 use mathlib.Core.List.{List, [], _∷_, _++_, append-nil, append-assoc}
 use borrow.Author.Tests.{le-ltb, lt-leb, leb-true, leb-false}
 use native.Mathlib.Omega.{arith}
-use lib.Dec.{ltb, leb}
+use lib.Dec.{leb}
 use lib.ListN.{length, take, drop, length-append, length-drop, drop-of-length-le, take-append-drop}
-use lib.Seq.{take-at, take-all, drop-drop, drop-append-le, take-append-le, length-take-le}
+use lib.Seq.{take-at, drop-drop, drop-append-le, take-append-le, length-take-le}
 use Rattle.framelog.specs.Layout.{recordSize}
 use Rattle.replay.specs.Log.{records}
 use Rattle.replay.specs.Day.{Stage, playOf, stages, entries}
-use Rattle.replay.specs.Lines.{lineOf, linesFrom}
+use Rattle.replay.specs.Lines.{linesFrom}
 use Rattle.replay.specs.Chunk.{lineMax, numberMax, Span, nothing, behind, halts, lineFor, nextPlayer, spanOf, played, answerOf}
-use Rattle.replay.specs.Statements.{SpanInside, SpanMoves, Call, spanBy, textBy, Session, session, Chunked, linesLeft, NothingLost}
+use Rattle.replay.specs.Statements.{SpanInside, SpanMoves, Call, spanBy, textBy, session, Chunked, linesLeft, NothingLost}
 use Rattle.replay.specs.declared.Listed.{Listed}
 use Rattle.replay.specs.declared.Player.{Player}
 use Rattle.replay.proofs.Logs.{no-records, first-record, behind-record, length-part, some-part, none-of}
-use Rattle.replay.proofs.Spans.{at-end, halted, goes-on}
+use Rattle.replay.proofs.Spans.{at-end, halted, goes-on, by-records}
 
 -- the records that are not played
 unfoldable leftOf : ℕ → Player → List ℕ → ℕ → List (List ℕ) → List (List ℕ)
@@ -150,32 +150,15 @@ module _ (us : ℕ) (player : Player) (buffer part tail : List ℕ) (room : ℕ)
             ∙ ap (λ (rs : List (List ℕ)). rs ++ records tail) (sym (left-goes-on us player buffer part room some e));
       })
 
-span-left : (k : ℕ) (us : ℕ) (player : Player) (buffer part tail : List ℕ) (room : ℕ) → length part ≤ k → Whole part tail → Here us player buffer part tail room
-span-left zero us player buffer part tail room h whole = left-none us player buffer part tail room h
-span-left (suc k) us player buffer part tail room h whole =
-    by-length (leb 1 (length part)) refl
-    (λ some.
-    span-left k us (nextPlayer player (stage us player buffer part room some)) (stage us player buffer part room some .buffer) (drop (length (take recordSize part)) part) tail
-    (room - length (lineFor player (stage us player buffer part room some)))
-    (rw (length-drop (length (take recordSize part)) part) (omega (arith, first-some part tail some))) (whole-behind part tail some whole))
-  where
-    by-halt : (some : 1 ≤ length part) (t : Bool) → halts room player ≡ t
-        → Here us (nextPlayer player (stage us player buffer part room some)) (stage us player buffer part room some .buffer) (drop (length (take recordSize part)) part) tail
-        (room - length (lineFor player (stage us player buffer part room some)))
-        → Here us player buffer part tail room
-    by-halt some true e next = left-all us player buffer part tail room some whole e
-    by-halt some false e next = left-next us player buffer part tail room some e next
-
-    by-length : (t : Bool) → leb 1 (length part) ≡ t
-        → ((some : 1 ≤ length part)
-        → Here us (nextPlayer player (stage us player buffer part room some)) (stage us player buffer part room some .buffer) (drop (length (take recordSize part)) part) tail
-        (room - length (lineFor player (stage us player buffer part room some))))
-        → Here us player buffer part tail room
-    by-length true e next = let some = leb-true 1 (length part) e in by-halt some (halts room player) refl (next some)
-    by-length false e next = left-none us player buffer part tail room (omega (arith, leb-false 1 (length part) e))
+span-left : (us : ℕ) (player : Player) (buffer part : List ℕ) (room : ℕ) (tail : List ℕ) → Whole part tail → Here us player buffer part tail room
+span-left us =
+    by-records us (λ player buffer part room. (tail : List ℕ) → Whole part tail → Here us player buffer part tail room)
+    (λ player buffer part room h tail whole. left-none us player buffer part tail room h)
+    (λ player buffer part room some e tail whole. left-all us player buffer part tail room some whole e)
+    (λ player buffer part room some e rest tail whole. left-next us player buffer part tail room some e (rest tail (whole-behind part tail some whole)))
 
 pub span-inside : SpanInside
-span-inside us player buffer log room = span-left (length log) us player buffer log [] room (omega arith) (inr refl) .inside
+span-inside us player buffer log room = span-left us player buffer log room [] (inr refl) .inside
 
 -- as a caller has it
 pub answer-inside : (us : ℕ) (player : Player) (buffer log : List ℕ) (room : ℕ) (answer : Listed) → answer ≡ answerOf (played us player buffer log room) → answer .read ≤ length log
@@ -206,7 +189,7 @@ call-goes-on us player buffer log c ends =
     let s = spanBy us player buffer log c in
     let whole = whole-call (c .size) log ends in
     let both : part ++ tail ≡ log = take-append-drop (c .size) log in
-    let left = span-left (length part) us player buffer part tail room (omega arith) whole in
+    let left = span-left us player buffer part room tail whole in
     let left-is : records (drop (s .read) log) ≡ leftOf us player buffer room (records part) ++ records tail =
     ap (λ (l : List ℕ). records (drop (s .read) l)) (sym both) ∙ left .records-are in
     let all-is : records part ++ records tail ≡ records log = sym (join (length part) part tail (omega arith) whole) ∙ ap records both in

@@ -1,15 +1,13 @@
 -- The theorems of `specs/Statements.antt` on room: `span-fits`, `room-suffices`, `all-parts`.
 -- Assumes nothing.
-use Prim.Native.Nat.{ℕ, zero, suc, _+_, _-_, _*_, _^_, _%_, _≤_, _<_}
-use mathlib.Core.Bool.{Bool, true, false, not}
-use mathlib.Core.Path.{_≡_, refl, sym, ap, ap₂, subst, _∙_}
-use mathlib.Core.Logic.{_⊎_}
+use Prim.Native.Nat.{ℕ, suc, _+_, _-_, _*_, _^_, _≤_, _<_}
+use mathlib.Core.Bool.{true, false, not}
+use mathlib.Core.Path.{_≡_, refl, sym, ap, subst, _∙_}
 use mathlib.Core.List.{List, [], _∷_, _++_}
-use borrow.Author.Tests.{le-ltb, lt-leb, leb-true, leb-false}
+use borrow.Author.Tests.{le-ltb, lt-leb}
 use native.Mathlib.Omega.{arith}
-use lib.Dec.{leb, ltb, eqb}
+use lib.Dec.{ltb, eqb}
 use lib.ListN.{length, take, drop, length-append, length-drop, take-append-drop}
-use lib.Seq.{getD-drop}
 use Rattle.le.specs.Word.{word, AreBytes}
 use Rattle.le.proofs.Tests.{either, never}
 use Rattle.le.proofs.Words.{word-below}
@@ -20,7 +18,6 @@ use Rattle.frame.specs.Reading.{parsed, dataOf}
 use Rattle.frame.specs.declared.Words.{Words}
 use Rattle.frame.specs.declared.read.Parsed.{Parsed}
 use Rattle.frame.specs.declared.read.Parsed.the-variants as Parsed
-use Rattle.framelog.specs.Layout as Layout
 use Rattle.framelog.specs.Layout.{recordSize, cutOf}
 use Rattle.framelog.specs.Reading.{readOf}
 use Rattle.framelog.specs.declared.Logged.{Logged}
@@ -28,8 +25,6 @@ use Rattle.framelog.specs.declared.Logged.the-variants.{Frame, Refused}
 use Rattle.framelog.specs.declared.Reason.the-variants.{WrongSize, NotZero, FrameLong, BadEnd}
 use Rattle.reassembly.specs.Step as Step
 use Rattle.reassembly.specs.Step.{stepOf}
-use Rattle.reassembly.specs.declared.Progress.{Progress}
-use Rattle.reassembly.specs.declared.Reason.{Reason}
 use Rattle.reassembly.specs.declared.Reason.the-variants.{Unread as Unparsed, NothingOpen, OutOfOrder, OtherWords, NoData, TooMuchData, MessageLong, BadState}
 use Rattle.reassembly.specs.declared.State.{State}
 use Rattle.reassembly.specs.declared.Verdict.the-variants.{More, Delivered, Refused as Stopped}
@@ -37,7 +32,7 @@ use Rattle.reassembly.proofs.Outcome.{Source, begun, continued, Outcome, refuse
 use Rattle.reassembly.proofs.Steps.{length-landed}
 use Rattle.replay.specs.Log.{records}
 use Rattle.replay.specs.Day.{Stage, ran, playOf}
-use Rattle.replay.specs.Lines.{space, newline, deliveredText, told, lineOf, lines}
+use Rattle.replay.specs.Lines.{space, told, lineOf}
 use Rattle.replay.specs.Chunk.{starting, lineMax, numberMax, Span, halts, lineFor, nextPlayer, played}
 use Rattle.replay.specs.Helpers.{toldMax}
 use Rattle.replay.specs.Statements.{Call, spanBy, session, Chunked, IdFits, Playable, SpanFits, RoomSuffices, InParts, AllParts}
@@ -45,11 +40,11 @@ use Rattle.replay.specs.declared.Entry.{Entry}
 use Rattle.replay.specs.declared.Entry.the-variants.{Unread, Run}
 use Rattle.replay.specs.declared.Player.{Player}
 use Rattle.replay.proofs.Days.{any-chunks}
-use Rattle.replay.proofs.Logs.{none-of, no-records, first-record, behind-record, length-part, some-part, are-drop, are-take}
-use Rattle.replay.proofs.Parts.{Whole, join, whole-call}
+use Rattle.replay.proofs.Logs.{none-of, no-records, first-record, behind-record, length-part, are-drop, are-take}
+use Rattle.replay.proofs.Parts.{join, whole-call}
 use Rattle.replay.proofs.Playing.{is-skipped, is-run}
-use Rattle.replay.proofs.Spans.{goes-room, at-end, halted, goes-on}
-use Rattle.replay.proofs.Texts.{spaced-most, spacedDelivered}
+use Rattle.replay.proofs.Spans.{goes-room, at-end, halted, goes-on, by-records}
+use Rattle.replay.proofs.Texts.{spaced-most}
 
 -- an entry whose line is at most the longest: the words and the length of a delivery in their bounds
 abbrev Small : Entry → Type 0
@@ -196,28 +191,18 @@ module _ (us : ℕ) (player : Player) (buffer log : List ℕ) (room : ℕ) (ok :
           long = next .long;
         })
 
-room-for : (k : ℕ) (us : ℕ) (player : Player) (buffer log : List ℕ) (room : ℕ) → length log ≤ k → Playable player buffer log → Room player log room (played us player buffer log room)
-room-for zero us player buffer log room h ok = room-none us player buffer log room ok h
-room-for (suc k) us player buffer log room h ok =
-    by-length (leb 1 (length log)) refl
-    (λ some.
-    room-for k us (nextPlayer player (stage us player buffer log room ok some)) (stage us player buffer log room ok some .buffer) (rest us player buffer log room ok some)
-    (room - length (line us player buffer log room ok some))
-    (rw (length-drop (length (take recordSize log)) log) (omega (arith, some-part 259 log some))) (next-playable us player buffer log room ok some))
-  where
-    by-halt : (some : 1 ≤ length log) (t : Bool) → halts room player ≡ t → Next us player buffer log room ok some → Room player log room (played us player buffer log room)
-    by-halt some true e next = room-halts us player buffer log room ok some e
-    by-halt some false e next = room-next us player buffer log room ok some e next
-
-    by-length : (t : Bool) → leb 1 (length log) ≡ t → ((some : 1 ≤ length log) → Next us player buffer log room ok some) → Room player log room (played us player buffer log room)
-    by-length true e next = let some = leb-true 1 (length log) e in by-halt some (halts room player) refl (next some)
-    by-length false e next = room-none us player buffer log room ok (omega (arith, leb-false 1 (length log) e))
+room-for : (us : ℕ) (player : Player) (buffer log : List ℕ) (room : ℕ) → Playable player buffer log → Room player log room (played us player buffer log room)
+room-for us =
+    by-records us (λ player buffer log room. Playable player buffer log → Room player log room (played us player buffer log room))
+    (λ player buffer log room h ok. room-none us player buffer log room ok h)
+    (λ player buffer log room some e ok. room-halts us player buffer log room ok some e)
+    (λ player buffer log room some e rest ok. room-next us player buffer log room ok some e (rest (next-playable us player buffer log room ok some)))
 
 pub span-fits : SpanFits
-span-fits us player buffer log room ok = room-for (length log) us player buffer log room (omega arith) ok .fits
+span-fits us player buffer log room ok = room-for us player buffer log room ok .fits
 
 pub room-suffices : RoomSuffices
-room-suffices us player buffer log room ok fits numbers = room-for (length log) us player buffer log room (omega arith) ok .all fits numbers .0
+room-suffices us player buffer log room ok fits numbers = room-for us player buffer log room ok .all fits numbers .0
 
 -- calls in parts are chunked, and leave nothing
 record Done (us : ℕ) (player : Player) (buffer log : List ℕ) (cs : List Call) : Type 0 where
@@ -235,7 +220,7 @@ in-parts us player buffer log (c ∷ cs) ok numbers parts =
     let both : part ++ tail ≡ log = take-append-drop (c .size) log in
     let joined : records log ≡ records part ++ records tail = ap records (sym both) ∙ join (length part) part tail (omega arith) (whole-call (c .size) log (parts .0)) in
     let counted : length (records log) ≡ length (records part) + length (records tail) = ap length joined ∙ length-append (records part) (records tail) in
-    let here = room-for (length part) us player buffer part (length (c .out)) (omega arith) (record { long = ok .long; bytes = are-take (c .size) log (ok .bytes); id = ok .id }) in
+    let here = room-for us player buffer part (length (c .out)) (record { long = ok .long; bytes = are-take (c .size) log (ok .bytes); id = ok .id }) in
     let all = here .all (parts .1) (omega arith) in
     let tail-is : drop (s .read) log ≡ tail = ap (λ (n : ℕ). drop n log) (all .0) ∙ sym (behind-record (c .size) log) in
     let next =

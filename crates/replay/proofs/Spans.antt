@@ -1,10 +1,10 @@
 -- The laws of what is played of a part of a log.
 -- Assumes nothing.
-use Prim.Native.Nat.{ℕ, _+_, _-_, _≤_, _<_}
-use mathlib.Core.Bool.{true, false}
+use Prim.Native.Nat.{ℕ, zero, suc, _+_, _-_, _≤_, _<_}
+use mathlib.Core.Bool.{Bool, true, false}
 use mathlib.Core.Path.{_≡_, refl, sym, ap, ap₂, subst, _∙_}
-use mathlib.Core.List.{List, [], _∷_, _++_, append-nil, append-assoc}
-use borrow.Author.Tests.{ltb-false, leb-false}
+use mathlib.Core.List.{List, [], _++_, append-nil, append-assoc}
+use borrow.Author.Tests.{ltb-false, leb-true, leb-false}
 use native.Mathlib.Omega.{arith}
 use lib.Dec.{ltb, leb}
 use lib.ListN.{length, take, drop, length-drop, drop-of-length-le, take-append-drop}
@@ -13,12 +13,11 @@ use Rattle.le.proofs.Tests.{neither}
 use Rattle.text.specs.Output.{Lies}
 use Rattle.text.proofs.Output.{take-laid, drop-laid, lies-length}
 use Rattle.framelog.specs.Layout.{recordSize}
-use Rattle.replay.specs.Log.{records}
 use Rattle.replay.specs.Day.{Stage, playOf}
 use Rattle.replay.specs.Chunk.{lineMax, numberMax, Span, nothing, behind, halts, lineFor, nextPlayer, spanOf, played, answerOf, outputAfter}
 use Rattle.replay.specs.declared.Listed.{Listed}
 use Rattle.replay.specs.declared.Player.{Player}
-use Rattle.replay.proofs.Logs.{no-records, first-record, behind-record, length-part}
+use Rattle.replay.proofs.Logs.{no-records, first-record, behind-record, length-part, some-part}
 
 -- a span behind nothing, and behind two others
 behind-none : (s : Span) → behind 0 [] s ≡ s
@@ -59,6 +58,43 @@ module _ (us : ℕ) (player : Player) (buffer log : List ℕ) (room : ℕ) where
         (played us (nextPlayer player stage) (stage .buffer) (drop (length first) log) (room - length (lineFor player stage)))
     unfolding spanOf
     goes-on e = rw (first-record log some, e, behind-record recordSize log)
+
+-- what holds of a part of no bytes, of one before whose first record playing stops, and of one whose first record is played, if it holds of the rest, holds of each part
+pub by-records : (us : ℕ) (P : Player → List ℕ → List ℕ → ℕ → Type 0)
+    → ((player : Player) (buffer log : List ℕ) (room : ℕ) → length log ≤ 0 → P player buffer log room)
+    → ((player : Player) (buffer log : List ℕ) (room : ℕ) → 1 ≤ length log → halts room player ≡ true → P player buffer log room)
+    → ((player : Player) (buffer log : List ℕ) (room : ℕ)
+    → 1 ≤ length log
+    → halts room player ≡ false
+    → P (nextPlayer player (playOf us (player .state) buffer (take recordSize log))) (playOf us (player .state) buffer (take recordSize log) .buffer)
+    (drop (length (take recordSize log)) log) (room - length (lineFor player (playOf us (player .state) buffer (take recordSize log))))
+    → P player buffer log room)
+    → (player : Player) (buffer log : List ℕ) (room : ℕ) → P player buffer log room
+by-records us P none stop next player buffer log room = within (length log) player buffer log room (omega arith)
+  where
+    by-halt : (player : Player) (buffer log : List ℕ) (room : ℕ) → 1 ≤ length log → (t : Bool) → halts room player ≡ t
+        → P (nextPlayer player (playOf us (player .state) buffer (take recordSize log))) (playOf us (player .state) buffer (take recordSize log) .buffer)
+        (drop (length (take recordSize log)) log) (room - length (lineFor player (playOf us (player .state) buffer (take recordSize log))))
+        → P player buffer log room
+    by-halt player buffer log room some true e rest = stop player buffer log room some e
+    by-halt player buffer log room some false e rest = next player buffer log room some e rest
+
+    by-length : (player : Player) (buffer log : List ℕ) (room : ℕ) (t : Bool) → leb 1 (length log) ≡ t
+        → (1 ≤ length log
+        → P (nextPlayer player (playOf us (player .state) buffer (take recordSize log))) (playOf us (player .state) buffer (take recordSize log) .buffer)
+        (drop (length (take recordSize log)) log) (room - length (lineFor player (playOf us (player .state) buffer (take recordSize log)))))
+        → P player buffer log room
+    by-length player buffer log room true e rest = let some = leb-true 1 (length log) e in by-halt player buffer log room some (halts room player) refl (rest some)
+    by-length player buffer log room false e rest = none player buffer log room (omega (arith, leb-false 1 (length log) e))
+
+    within : (k : ℕ) (player : Player) (buffer log : List ℕ) (room : ℕ) → length log ≤ k → P player buffer log room
+    within zero player buffer log room h = none player buffer log room h
+    within (suc k) player buffer log room h =
+        by-length player buffer log room (leb 1 (length log)) refl
+        (λ some.
+        within k (nextPlayer player (playOf us (player .state) buffer (take recordSize log))) (playOf us (player .state) buffer (take recordSize log) .buffer)
+        (drop (length (take recordSize log)) log) (room - length (lineFor player (playOf us (player .state) buffer (take recordSize log))))
+        (rw (length-drop (length (take recordSize log)) log) (omega (arith, some-part 259 log some))))
 
 -- what playing keeps, turn by turn: the text so far stands at the output's start, and all that is to be played is that and what is still to come
 pub record Kept (us : ℕ) (player₀ : Player) (buffer₀ chunk out₀ : List ℕ) (player : Player) (buffer out : List ℕ) (read written : ℕ) : Type 0 where

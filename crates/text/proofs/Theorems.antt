@@ -4,10 +4,9 @@ use Prim.Native.Nat.{ℕ, _+_, _-_, _*_, _/_, _%_, _≤_, _<_}
 use mathlib.Core.Path.{_≡_, refl, sym, ap, subst, _∙_}
 use mathlib.Core.List.{List, [], _∷_, _++_, append-nil, append-assoc}
 use native.Mathlib.Omega.{arith}
-use lib.ListN.{length}
 use Rattle.text.specs.Decimal.{digit, decimal}
 use Rattle.text.specs.Statements.{valueFrom, valueOf, AreDigits, NoZeroInFront, Numeral, Spells, OnlySpelling}
-use Rattle.text.proofs.Digits.{one-digit, last-digit, by-tenths, some-digit}
+use Rattle.text.proofs.Digits.{one-digit, last-digit, by-tenths}
 
 -- a digit behind others
 value-snoc : (before : ℕ) (ds : List ℕ) (d : ℕ) → valueFrom before (ds ++ (d ∷ [])) ≡ 10 * valueFrom before ds + (d - 48)

@@ -1,7 +1,7 @@
 -- `hoursquall_replay::write_player` meets its contract: the state's block, and the number behind it.
 -- Assumes nothing.
 use Prim.Native.Nat.{ℕ}
-use mathlib.Core.Path.{_≡_, refl}
+use mathlib.Core.Path.{_≡_}
 use mathlib.Core.List.{List, [], _∷_, _++_}
 use lib.ListN.{getD}
 use Rattle.reassembly.specs.declared.State.{State}

@@ -1,7 +1,7 @@
 -- `replay::put_spaced` meets its contract: the number is put behind the space.
 -- Assumes nothing.
 use native.Mathlib.Omega.{arith}
-use lib.ListN.{length, length-append}
+use lib.ListN.{length-append}
 use Rattle.text.specs.Decimal.{decimal}
 use Rattle.text.proofs.Output.{lies, lies-then}
 use Rattle.replay.specs.Lines.{space}

@@ -5,7 +5,6 @@ use native.Mathlib.Omega.{arith}
 use Rattle.text.specs.Decimal.{decimal}
 use Rattle.replay.specs.Day.{EntryBounded}
 use Rattle.replay.specs.Lines.{told}
-use Rattle.replay.specs.declared.Entry.{Entry}
 use Rattle.replay.proofs.Texts.{number-most, tells, tells-as}
 use borrow.Author.Needs.{needs}
 use Rattle.replay.proofs.put_told.Statement.{statement}

@@ -1,6 +1,6 @@
 -- `replay::receiver_in` meets its contract: it goes by the file's length.
 -- Assumes nothing.
-use mathlib.Core.Path.{ap, _∙_}
+use mathlib.Core.Path.{ap}
 use borrow.Author.Tests.{eq-eqb, ne-eqb}
 use Rattle.replay.specs.Lines.{receiverOf}
 use Rattle.replay.specs.declared.Receiver.the-variants.{Known}

@@ -6,7 +6,6 @@ use native.Mathlib.Omega.{arith}
 use lib.ListN.{length}
 use Rattle.text.specs.Decimal.{decimal}
 use Rattle.text.proofs.Digits.{length-one, length-more, digits-most}
-use borrow.Author.Needs.{needs}
 use Rattle.text.proofs.count_digits.Statement.{statement}
 use Rattle.text.proofs.count_digits.Tie as tie
 

@@ -1,7 +1,7 @@
 -- `text::put` meets its contract: all of the text is copied to the part from the place on, where it fits.
 -- Assumes nothing.
 use Prim.Native.Nat.{_+_, _≤_}
-use mathlib.Core.Path.{sym, ap, _∙_}
+use mathlib.Core.Path.{sym, _∙_}
 use borrow.Author.Tests.{not-true, not-false, leb-true}
 use native.Mathlib.Omega.{arith}
 use lib.ListN.{length}
