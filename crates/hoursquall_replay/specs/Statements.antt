@@ -18,7 +18,7 @@ use Rattle.hoursquall_replay.specs.Replay.{stagedIn, leftBy, playerOf, n
 abbrev pub PlayerCrosses : Type 0
 PlayerCrosses = (p : Player) → StateFits (p .state) → playerOf (numbersOf p) ≡ p
 
--- `record-crosses`. The block that a call of `hs_replay_record` leaves is the state after it: so a run over blocks, record by record, is the run over states (`stages` of the crate `replay`).
+-- `record-crosses`. The block that a call of `hs_replay_record` leaves is the state after it. (It is said of each call; of lists of calls nothing is stated here.)
 abbrev pub RecordCrosses : Type 0
 RecordCrosses =
     (us : ℕ) (lent : Lent) (slice : List ℕ)

@@ -1,4 +1,4 @@
--- A log is its records, one behind the other, with no header (document 01, "The frame log"); "a short last record is a record" (document 02, Q-2).
+-- A log is its records, one behind the other, with no header (document 01, "The frame log"); "a short last record is a record refused with 50" (document 02, Q-2).
 -- Assumes nothing.
 use Prim.Native.Nat.{ℕ, zero, suc}
 use mathlib.Core.List.{List, [], _∷_, map, flatten}

@@ -155,7 +155,8 @@ OwnNumbers =
     (us : ℕ) (state : State) (buffer : List ℕ) (rs : List (List ℕ))
     → map refusalIn (entries us state buffer rs) ≡ map (λ r. refusalOf (readOf recordSize r)) rs
 
--- `damaged-day`. So a day in which records were damaged, or the last one is short, hands up of demand 3's calls that can still be read what demand 3 gives for them.
+-- `damaged-day`. So a day in which records were damaged, or the last one is short, hands up what demand 3 gives for the frames that can still be read: one whose record is refused counts as taken out, and
+-- so, as in demand 3, is none with Index 0.
 abbrev pub DamagedDay : Type 0
 DamagedDay =
     (us : ℕ) (buffer : List ℕ) (traffic : Traffic) (rs : List (List ℕ))
@@ -178,7 +179,7 @@ AnyBuffer =
 abbrev pub SpanInside : Type 0
 SpanInside = (us : ℕ) (player : Player) (buffer log : List ℕ) (room : ℕ) → played us player buffer log room .read ≤ length log
 
--- `span-moves`. Where bytes are handed in with room for the longest line, and a number is left, a record at least is played: who hands in the rest again comes to an end.
+-- `span-moves`. Where bytes are handed in with room for the longest line, and a number is left, a record at least is played, so that less is left. (That all is, in the end, is `all-parts`.)
 abbrev pub SpanMoves : Type 0
 SpanMoves =
     (us : ℕ) (player : Player) (buffer log : List ℕ) (room : ℕ)
