@@ -1,4 +1,6 @@
 // UBIOS message frames (T/GCC 3007-2025, table 11): the header, its reader and its writer.
+#![tactic(auto)]
+
 pub mod read;
 pub mod write;
 

@@ -1,4 +1,6 @@
 // The numbers to check by for frames, counted, written and read, and every refusal of theirs: a part of the program `vectors`.
+#![tactic(auto)]
+
 use frame::read::Parsed;
 use frame::write::{Counted, Written};
 use frame::{Envelope, Header};

@@ -1,4 +1,6 @@
 // The frame log: records of 260 bytes, each with one frame as it came from the cable.
+#![tactic(auto)]
+
 ghost use Rattle.std.specs.Prelude.{◌≡◌, ◌+◌, ◌≤◌, length};
 ghost use Rattle.framelog.specs.Layout.{number_of, record_size, header_size, cut_of};
 ghost use Rattle.framelog.specs.Helpers.{filled};

@@ -1,5 +1,7 @@
 // Several senders on one cable: reassembly with eight places, a message of one sender in each. The places are 64 numbers
 // that the caller lends (see `numbers`), and each has its own 4,096 bytes of a lent buffer.
+#![tactic(auto)]
+
 mod numbers;
 
 ghost use Rattle.std.specs.Prelude.{◌≡◌, true, ◌≤◌, ◌<◌, length};

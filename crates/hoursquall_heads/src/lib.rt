@@ -1,5 +1,7 @@
 // The static library of several senders on one cable. It is a library of its own, since the compiler compiles the
 // reassembly's step in place only where it has one caller.
+#![tactic(auto)]
+
 ghost use Rattle.std.specs.Prelude.{◌≡◌};
 ghost use Rattle.hoursquall_heads.specs.Heads.{verdict_number, words_after, place_after, lending, answered, left};
 

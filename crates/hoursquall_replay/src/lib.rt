@@ -1,5 +1,7 @@
 // The static library of the replay: a recorded day, played record by record, or part by part into text. It is a library
 // of its own, since the compiler compiles the reassembly's step in place only where it has one caller.
+#![tactic(auto)]
+
 ghost use Rattle.std.specs.Prelude.{◌≡◌, length};
 ghost use Rattle.replay.specs.Chunk.{output_after};
 ghost use Rattle.hoursquall.specs.Reassembly.{lending};

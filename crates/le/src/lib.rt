@@ -1,5 +1,7 @@
 // Little-endian words, sums, comparison and copies over byte slices. Everything above reads bytes through this
 // crate, and knows it by its promises alone.
+#![tactic(auto)]
+
 pub mod sum;
 pub mod word;
 

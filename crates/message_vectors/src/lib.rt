@@ -1,4 +1,6 @@
 // The numbers to check by for reassembly, a whole message and then each thing that can go wrong: a part of the program `vectors`.
+#![tactic(auto)]
+
 use frame::{Envelope, Header, Words};
 use reassembly::{Progress, State, Verdict};
 

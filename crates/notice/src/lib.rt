@@ -1,5 +1,7 @@
 // The notice ring (T/GCC 3007-2025, tables 30 and 31): notices stand end to end in a lent ring, and run past
 // its last byte to its first.
+#![tactic(auto)]
+
 ghost use Rattle.std.specs.Prelude.{◌≡◌, ◌≤◌, ◌<◌, ◌++◌, length, drop};
 ghost use Rattle.std.proofs.Math.ListN as ListN;
 ghost use Rattle.le.specs.Word.{word, bytes};

@@ -1,4 +1,6 @@
 // The numbers to check by for the notice ring, posts and takes, and every refusal of theirs: a part of the program `vectors`.
+#![tactic(auto)]
+
 use notice::{Positions, Posted, Taken};
 
 fn say_positions(at: Positions) -> Positions {

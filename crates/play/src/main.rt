@@ -3,6 +3,8 @@
 // RECEIVER is a file of four bytes, the Receiver ID. LOG is a frame log. A line is written for each of its records. A
 // file that is missing or cannot be opened counts as empty, and so does one that is not named. A log that cannot be read
 // on ends there.
+#![tactic(auto)]
+
 use libc::STDOUT_FILENO;
 use replay::{Player, Receiver};
 

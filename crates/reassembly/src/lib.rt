@@ -1,5 +1,7 @@
 // Reassembly of messages from their frames: one call a frame, over a state that is handed in and back,
 // and a buffer that the caller lends.
+#![tactic(auto)]
+
 ghost use Rattle.std.specs.Prelude.{◌≡◌, true, ◌≤◌, ◌<◌, length};
 ghost use Rattle.frame.specs.Layout.{message_max};
 ghost use Rattle.reassembly.specs.Helpers.{unread_of};

@@ -1,5 +1,7 @@
 // A lent region: a part of memory, and the address of its first byte. Whether a header that stands at an
 // address lies in it; any sizes and addresses get an answer.
+#![tactic(auto)]
+
 ghost use Rattle.std.specs.Prelude.{◌≡◌};
 ghost use Rattle.region.specs.Region.{runs_past_def, outside};
 

@@ -1,5 +1,7 @@
 // A recorded day, played again: the frames of a log run in order through the reassembly, with a line of text for
 // each record.
+#![tactic(auto)]
+
 ghost use Rattle.std.specs.Prelude.{◌≡◌, ◌+◌, ◌≤◌, ◌<◌, ◌++◌, length};
 ghost use Rattle.frame.specs.Layout.{message_max};
 ghost use Rattle.text.specs.Decimal.{decimal};

@@ -1,4 +1,6 @@
 // The lines that the programs print: text with numbers in it, and lists of bytes.
+#![tactic(auto)]
+
 use libc::STDOUT_FILENO;
 
 // How many bytes of a list are shown.

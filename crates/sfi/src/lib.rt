@@ -1,5 +1,7 @@
 // SFI tables (SFI 0.8.2): the kinds, the check of a table, its entries, the search for SYST, and the choice
 // between the board's table and a built-in one.
+#![tactic(auto)]
+
 pub mod choice;
 pub mod kind;
 pub mod search;

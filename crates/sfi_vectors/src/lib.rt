@@ -1,5 +1,7 @@
 // The numbers to check by for SFI tables, and every refusal of theirs: a part of the program `vectors`. Each group of lines is one
 // text, whose numbers are what the calls answered, with a place for each kind of answer: 0 stands where it was of another kind.
+#![tactic(auto)]
+
 use sfi::choice::Chosen;
 use sfi::kind::Kind;
 use sfi::search::Found;

@@ -1,5 +1,7 @@
 // The numbers to check by for UBIOS tables, a root with a gap and two tables, and every refusal of theirs: a part of the program
 // `vectors`. Each group of lines is one text, whose numbers are what the calls answered: 0 stands where an answer was of another kind.
+#![tactic(auto)]
+
 use ubios::lookup::{Body, Found};
 use ubios::{Checked, Root, RootChecked, Table};
 

@@ -1,5 +1,7 @@
 // Text in ASCII, put into an output that the caller lends, from a place on. Each function answers the place behind
 // what it put; where that does not fit whole, it puts nothing and answers the place it was given.
+#![tactic(auto)]
+
 ghost use Rattle.std.specs.Prelude.{◌≡◌, ◌+◌, leb, length};
 ghost use Rattle.text.specs.Decimal.{decimal};
 ghost use Rattle.text.specs.Output as Output;

@@ -1,6 +1,8 @@
 // UBIOS tables (T/GCC 3007-2025, tables 12 and 13): the checks of a table and of the root table, and the
 // look-up of a table by its name. Memory is a lent region and the address of its first byte; any region and
 // any addresses get an answer.
+#![tactic(auto)]
+
 pub mod lookup;
 mod name;
 
