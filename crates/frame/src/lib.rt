@@ -8,7 +8,7 @@ ghost use Rattle.std.specs.Prelude.{◌≡◌};
 ghost use Rattle.frame.specs.Layout.{header_of, header_for, header_bytes};
 
 // What a message is sent under: the carried words but for its length, and the Receiver ID.
-#[derive(Drop)]
+#[derive(Clone, Copy)]
 pub struct Envelope {
     // The message's number, in the byte that table 11 calls Reserved.
     pub sequence: u8,
@@ -23,7 +23,7 @@ pub struct Envelope {
 }
 
 // The five carried words, which every frame of a message repeats.
-#[derive(Drop)]
+#[derive(Clone, Copy)]
 pub struct Words {
     pub sequence: u8,
     pub id: u32,
@@ -33,7 +33,7 @@ pub struct Words {
     pub total: u32,
 }
 
-#[derive(Drop)]
+#[derive(Clone, Copy)]
 pub struct Header {
     pub index: u16,
     pub receiver: u32,

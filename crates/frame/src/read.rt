@@ -5,7 +5,7 @@ ghost use Rattle.frame.specs.Reading.{parsed, data_of, number_of};
 use crate::Header;
 
 // Why a frame is refused.
-#[derive(Drop)]
+#[derive(Clone, Copy)]
 pub enum Reason {
     // 1: under 24 bytes.
     FrameShort,
@@ -17,7 +17,7 @@ pub enum Reason {
     OtherReceiver,
 }
 
-#[derive(Drop)]
+#[derive(Clone, Copy)]
 pub enum Parsed {
     Header(Header),
     Refused(Reason),

@@ -7,7 +7,7 @@ ghost use Rattle.frame.specs.Writing.{counted, number_of, piece_of, frame_at, wr
 use crate::{Envelope, Header};
 
 // Why a count or a frame is refused.
-#[derive(Drop)]
+#[derive(Clone, Copy)]
 pub enum Reason {
     // 10: message over 4,096 bytes.
     MessageLong,
@@ -19,13 +19,13 @@ pub enum Reason {
     OutputShort,
 }
 
-#[derive(Drop)]
+#[derive(Clone, Copy)]
 pub enum Counted {
     Frames(usize),
     Refused(Reason),
 }
 
-#[derive(Drop)]
+#[derive(Clone, Copy)]
 pub enum Written {
     // The frame's length.
     Frame(usize),

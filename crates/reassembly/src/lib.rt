@@ -12,7 +12,7 @@ use frame::{Header, Words};
 
 // A message that is open: its carried words, the Index that comes next, and how many of its bytes stand
 // in the buffer.
-#[derive(Drop)]
+#[derive(Clone, Copy)]
 pub struct Progress {
     pub words: Words,
     pub next: usize,
@@ -20,7 +20,7 @@ pub struct Progress {
 }
 
 // What is kept between two calls.
-#[derive(Drop)]
+#[derive(Clone, Copy)]
 pub enum State {
     // Nothing is open.
     Fresh,
@@ -28,7 +28,7 @@ pub enum State {
 }
 
 // Why a frame is refused.
-#[derive(Drop)]
+#[derive(Clone, Copy)]
 pub enum Reason {
     // 1 to 4: the frame does not parse.
     Unread(frame::read::Reason),
@@ -48,7 +48,7 @@ pub enum Reason {
     BadState,
 }
 
-#[derive(Drop)]
+#[derive(Clone, Copy)]
 pub enum Verdict {
     // More of the message is wanted.
     More,
@@ -58,7 +58,7 @@ pub enum Verdict {
 }
 
 // A verdict together with the state after it.
-#[derive(Drop)]
+#[derive(Clone, Copy)]
 pub struct Answer {
     pub verdict: Verdict,
     pub state: State,
