@@ -14,7 +14,6 @@ use Rattle.frame.specs.Layout.{message_max, words_of, words_at}
 use Rattle.frame.specs.declared.Header.{Header}
 use Rattle.frame.specs.declared.Words.{Words}
 use Rattle.frame.specs.declared.read.Parsed.{Parsed}
-use Rattle.frame.specs.declared.read.Parsed.TheVariants as Parsed
 use Rattle.frame.specs.declared.read.Reason.{Reason as ReadReason}
 use Rattle.reassembly.specs.Step.{Stepped, consistent, same_words_def, refused, landed, delivered, wanting, taken, lacks_data_def, is_next, is_first, accept, begin, proceed, routed, received}
 use Rattle.reassembly.specs.declared.Answer.{Answer}
@@ -27,6 +26,12 @@ use Rattle.reassembly.specs.declared.Reason.TheVariants.{Unread, NothingOpen, Ou
 pub as_in : (st law : Stepped) (answer : Answer) (buffer : List ℕ) → st ≡ law → answer ≡ law.answer → buffer ≡ law.buffer
     → (answer ≡ st.answer) × (buffer ≡ st.buffer)
 as_in st law answer buffer e a b = rw e (a, b)
+
+pub answer_in : (st law : Stepped) (answer : Answer) → st ≡ law → answer ≡ law.answer → answer ≡ st.answer
+answer_in st law answer e a = rw e a
+
+pub buffer_in : (st law : Stepped) (buffer : List ℕ) → st ≡ law → buffer ≡ law.buffer → buffer ≡ st.buffer
+buffer_in st law buffer e b = rw e b
 
 -- which states are fresh or consistent
 pub fresh : (room : ℕ) → consistent Fresh room ≡ true

@@ -1,6 +1,6 @@
 -- What follows for runs: `exactly_these`, `put_in_exactly`, `never_bad`, `never_in_vain`, `sent_is_framed`, `framed_is_sent`, `written_is_handed_up`.
 -- Assumes nothing.
-use Prim.Native.Nat.{ℕ, zero, suc, ◌+◌, ◌-◌, ◌≤◌}
+use Prim.Native.Nat.{ℕ, zero, suc, ◌-◌, ◌≤◌}
 use mathlib.Core.Bool.{Bool, true, false, cond}
 use mathlib.Core.Path.{◌≡◌, refl, sym, ap, ap₂, ◌∙◌}
 use mathlib.Core.List.{List, [], ◌∷◌, ◌++◌, map, flatten, filter_map, filter_map-append}
@@ -13,13 +13,13 @@ use Rattle.frame.specs.Framing.{All, Cut, frames_from, Framing}
 use Rattle.frame.specs.Statements.{Fits, count_up}
 use Rattle.frame.specs.declared.Envelope.{Envelope}
 use Rattle.frame.proofs.Theorems.{writes_a_framing}
-use Rattle.reassembly.specs.Step.{refused, step_of}
+use Rattle.reassembly.specs.Step.{step_of}
 use Rattle.reassembly.specs.Run.{HandedUp, answers, up_by, run, messages}
 use Rattle.reassembly.specs.Traffic.{Message, Sent, Transmission, Traffic, PutIn, Framed, Legal, envelope_for, calls_from, calls_of, calls, all_arrive, as_sent, nothing, if_last, expected_from, gives, arrived, expected_of, expected}
 use Rattle.reassembly.specs.Statements.{ExactlyThese, PutInExactly, NeverBad, untouched, SentIsFramed, FramedIsSent, NeverInVain, Outgoing, LegalOutgoing, frames_of, hands_up, WrittenIsHandedUp}
 use Rattle.reassembly.specs.declared.State.{State}
 use Rattle.reassembly.specs.declared.State.TheVariants.{Fresh, Open}
-use Rattle.reassembly.proofs.Answers.{fresh, whole}
+use Rattle.reassembly.proofs.Answers.{fresh}
 use Rattle.reassembly.proofs.Steps.{unread, unread_only}
 use Rattle.reassembly.proofs.Outcome.{stays_consistent, small}
 use Rattle.reassembly.proofs.Theorem.{starts_somewhere, never_last, Ready, Apart, all_messages, unlike_any, told_apart, all_framed, demand_3}

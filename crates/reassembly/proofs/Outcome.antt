@@ -18,7 +18,6 @@ use Rattle.frame.specs.Reading.{parsed, data_of}
 use Rattle.frame.specs.declared.Header.{Header}
 use Rattle.frame.specs.declared.Words.{Words}
 use Rattle.frame.specs.declared.read.Parsed.{Parsed}
-use Rattle.frame.specs.declared.read.Parsed.TheVariants as Parsed
 use Rattle.frame.specs.declared.read.Reason.{Reason as ReadReason}
 use Rattle.frame.specs.declared.read.Reason.TheVariants.{FrameShort, FrameLong, WrongType, OtherReceiver}
 use Rattle.reassembly.specs.Step.{Stepped, number_of, consistent, same_words_def, state_after_def, refused, waiting, landed, delivered, wanting, lacks_data_def, is_next, is_first, accept, begin, proceed, routed, step_of}

@@ -1,7 +1,6 @@
 -- What only private functions' contracts name. No reader has to believe it: `route` calls it of a frame that does not parse.
 -- Assumes nothing.
 use Rattle.frame.specs.declared.read.Parsed.{Parsed}
-use Rattle.frame.specs.declared.read.Parsed.TheVariants as Parsed
 use Rattle.frame.specs.declared.read.Reason.TheVariants.{FrameShort}
 use Rattle.reassembly.specs.declared.Reason.{Reason}
 use Rattle.reassembly.specs.declared.Reason.TheVariants.{Unread}
