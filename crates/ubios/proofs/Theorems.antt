@@ -12,7 +12,7 @@ use lib.Seq.{take-nil, drop-drop}
 use Rattle.le.proofs.Tests.{apart}
 use Rattle.ubios.specs.Layout.{table_header, used_of, slots_of}
 use Rattle.ubios.specs.Checks.{number_of, table_at, root_checked}
-use Rattle.ubios.specs.Lookup.{bad_name, passes, leads, body_of, body_at, hits, answer_of, looked_up, found}
+use Rattle.ubios.specs.Lookup.{bad_name, leads, body_of, body_at, hits, answer_of, looked_up, found}
 use Rattle.ubios.specs.Statements.{NoneLeads, Walked, FoundOnly, OnlyFound, FoundNone, NoneFound, FoundTwo, TwoFound, BehindGap, SameTables, moved_on, GapAdded, BodyInside, BodyBytes}
 use Rattle.ubios.specs.declared.Reason.TheVariants.{NoTable, TwoTables}
 use Rattle.ubios.specs.declared.RootChecked.{RootChecked}

@@ -119,7 +119,7 @@ OnlyFound =
     → OnlyOne region base root name b
     → found region base root name ≡ Only b
 
--- `Found-None`, `None-found`. 37 is given exactly where the name can be sought, the root passes, and no slot leads to a passing table of the name.
+-- `found_none`, `none_found`. 37 is given exactly where the name can be sought, the root passes, and no slot leads to a passing table of the name.
 abbrev pub FoundNone : Type 0
 FoundNone =
     (region : List ℕ) (base root : ℕ) (name : List ℕ)
