@@ -6,7 +6,7 @@ ghost use Rattle.sfi.specs.Checks.{header_size, length_of_def, older_revision, b
 use crate::{Checked, Reason, Table, length_of};
 
 // A kind of table.
-#[derive(Drop)]
+#[derive(Clone, Copy)]
 pub struct Kind {
     pub signature: u32,
     // The size of an entry.
