@@ -8,7 +8,7 @@ ghost use Rattle.framelog.specs.Reading.{is_zero_def, read_of, frame_after};
 ghost use Rattle.framelog.specs.Writing.{written, slice_after};
 
 // Why a record is refused.
-#[derive(Drop)]
+#[derive(Clone, Copy)]
 pub enum Reason {
     // 50: the slice is not 260 bytes.
     WrongSize,
@@ -20,14 +20,14 @@ pub enum Reason {
     BadEnd,
 }
 
-#[derive(Drop)]
+#[derive(Clone, Copy)]
 pub enum Logged {
     // The frame's length; it stands from byte 4 on.
     Frame(usize),
     Refused(Reason),
 }
 
-#[derive(Drop)]
+#[derive(Clone, Copy)]
 pub enum Written {
     Done,
     Refused(Reason),

@@ -24,7 +24,7 @@ pub const PLACE_SIZE: usize = 4096;
 pub const BUFFER_MIN: usize = 32768;
 
 // Why a frame is refused.
-#[derive(Drop)]
+#[derive(Clone, Copy)]
 pub enum Reason {
     // 1 to 11: as in the crate `reassembly`, of the sender's own message.
     Step(reassembly::Reason),
@@ -32,7 +32,7 @@ pub enum Reason {
     NoPlace,
 }
 
-#[derive(Drop)]
+#[derive(Clone, Copy)]
 pub enum Verdict {
     // More of the message is wanted.
     More,

@@ -17,7 +17,6 @@ use Rattle.frame.specs.Layout.{header_size, frame_max, message_max, type_version
 use Rattle.frame.specs.Reading.{parsed, data_of}
 use Rattle.frame.specs.declared.Words.{Words}
 use Rattle.frame.specs.declared.read.Parsed.{Parsed}
-use Rattle.frame.specs.declared.read.Parsed.TheVariants as Parsed
 use Rattle.framelog.specs.Layout.{record_size, cut_of}
 use Rattle.framelog.specs.Reading.{read_of}
 use Rattle.framelog.specs.declared.Logged.{Logged}

@@ -16,7 +16,7 @@ use framelog::Logged;
 use reassembly::{State, Verdict};
 
 // What a record comes to.
-#[derive(Drop)]
+#[derive(Clone, Copy)]
 pub enum Entry {
     // 50 to 53: the record is refused, and its frame is not run.
     Unread(framelog::Reason),
@@ -25,14 +25,14 @@ pub enum Entry {
 }
 
 // An entry together with the state after it.
-#[derive(Drop)]
+#[derive(Clone, Copy)]
 pub struct Played {
     pub entry: Entry,
     pub state: State,
 }
 
 // What is kept between two parts of a log: the reassembly's state, and the number of the next record.
-#[derive(Drop)]
+#[derive(Clone, Copy)]
 pub struct Player {
     pub state: State,
     pub number: u64,
@@ -40,7 +40,7 @@ pub struct Player {
 
 // What was played of a part of a log: how many of its bytes, how many bytes of text were written, and the player
 // after that.
-#[derive(Drop)]
+#[derive(Clone, Copy)]
 pub struct Listed {
     pub read: usize,
     pub written: usize,
@@ -48,7 +48,7 @@ pub struct Listed {
 }
 
 // Whose frames are run.
-#[derive(Drop)]
+#[derive(Clone, Copy)]
 pub enum Receiver {
     // Its Receiver ID.
     Known(u32),
@@ -188,7 +188,7 @@ fn must_halt(player: Player, room: usize) -> bool
 }
 
 // The place behind a record's line, and the player after that record.
-#[derive(Drop)]
+#[derive(Clone, Copy)]
 struct Line {
     place: usize,
     player: Player,
