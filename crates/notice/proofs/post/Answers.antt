@@ -3,7 +3,7 @@ use Rattle.std.proofs.Common.{ℕ, ◌+◌, ◌≤◌, ◌<◌, ◌≡◌, List,
 use native.Mathlib.Nat.{le_of_lt}
 use Rattle.le.specs.Word.{bytes}
 use Rattle.le.proofs.Words.{length-bytes}
-use Rattle.notice.specs.Ring.{header_size, ring_min, moved, stored, notice_of}
+use Rattle.notice.specs.Ring.{data_max, header_size, ring_min, moved, stored, notice_of}
 use Rattle.notice.specs.declared.Posted.TheVariants.{Stored}
 use Rattle.notice.proofs.Turning.{moved_below, length_stored, stored_join}
 use Rattle.notice.proofs.Answers.{good, room_left, post_bad, post_long, post_full, post_stored}
@@ -45,8 +45,9 @@ returns-then-long-clause-value c =
 
 pub returns-then-full-clause-value : goal.returns-then-full-clause-value
 returns-then-full-clause-value c =
+    let small : length c.args.body.now ≤ data_max = omega arith in
     sym
-    (post_full c.args.ring.now c.args.at c.args.id c.args.body.now (sym c.is_bad.ensures ∙ c.if-is_bad.false) (le-ltb _ _ c.if-long.false)
+    (post_full c.args.ring.now c.args.at c.args.id c.args.body.now (sym c.is_bad.ensures ∙ c.if-is_bad.false) (le-ltb _ _ small)
     (sym c.lacks_room-full.ensures ∙ c.if-full.true))
 
 pub put_round-requires : goal.put_round-requires

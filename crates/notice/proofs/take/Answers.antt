@@ -3,7 +3,7 @@ use Rattle.std.proofs.Common.{ℕ, ◌+◌, ◌-◌, ◌≤◌, ◌<◌, ◌≡�
 use Rattle.std.proofs.Math.ListN as ListN
 use Rattle.std.proofs.lemmas.List.{take-append-le}
 use native.Mathlib.Nat.{le_of_lt}
-use Rattle.notice.specs.Ring.{header_size, is_long, moved, turned, length_at, lacks_header, damaged, waiting}
+use Rattle.notice.specs.Ring.{data_max, header_size, is_long, moved, turned, length_at, lacks_header, damaged, waiting}
 use Rattle.notice.specs.declared.Positions.{Positions}
 use Rattle.notice.proofs.Turning.{moved_below, length_turned, turned_moved}
 use Rattle.notice.proofs.Answers.{Good, good, waits_less, by_data, take_bad, take_empty, take_damaged, take_short, take_notice, notice_same}
@@ -18,10 +18,10 @@ module _ (ring : List ℕ) (at : Positions) (waits n : ℕ) (waits_is : waits �
     head_waits : lacks_header ring at ≡ false
     head_waits = rw (← waits_is) (le-ltb _ _ head)
 
-    too_long : 1024 < n → damaged ring at ≡ true
+    too_long : data_max < n → damaged ring at ≡ true
     too_long h = let is : is_long (length_at ring at) ≡ true = rw (← n_is) (lt-ltb _ _ h) in rw (head_waits, is)
 
-    module _ (small : n ≤ 1024) where
+    module _ (small : n ≤ data_max) where
       by_rest : damaged ring at ≡ ltb (waits - header_size) n
       by_rest =
           by_data ring at head_waits (rw (← n_is) (le-ltb _ _ small)) ∙ ap₂ (λ (w m : ℕ). ltb (w - header_size) m) (sym waits_is) (sym n_is)
