@@ -8,7 +8,7 @@ ghost use Rattle.le.specs.Word.{word, bytes};
 ghost use Rattle.notice.specs.Ring.{number_of, header_size, ring_max, bad_ring, waiting, is_full, moved, turned, stored, posted, ring_after, taken_of, output_after};
 
 // Where the oldest notice starts, and where the next one will: offsets in the ring. Equal means empty.
-#[derive(Drop)]
+#[derive(Clone, Copy)]
 pub struct Positions {
     pub read: usize,
     pub write: usize,
