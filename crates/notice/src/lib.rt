@@ -15,7 +15,7 @@ pub struct Positions {
 }
 
 // Why a post or a take is refused.
-#[derive(Drop)]
+#[derive(Clone, Copy)]
 pub enum Reason {
     // 20: the ring's length or a position is not legal.
     BadRing,
@@ -31,14 +31,14 @@ pub enum Reason {
     Full,
 }
 
-#[derive(Drop)]
+#[derive(Clone, Copy)]
 pub enum Posted {
     // The positions after it.
     Stored(Positions),
     Refused(Reason),
 }
 
-#[derive(Drop)]
+#[derive(Clone, Copy)]
 pub enum Taken {
     // Notify ID, Data Length, and the positions after it; the data is the output's first bytes.
     Notice(u32, usize, Positions),
@@ -185,7 +185,7 @@ pub fn post(ring: &mut [u8], at: Positions, id: u32, body: &[u8]) -> Posted
 }
 
 // The Notify ID and the Data Length that stand at a place.
-#[derive(Drop)]
+#[derive(Clone, Copy)]
 struct Head {
     id: u32,
     n: usize,

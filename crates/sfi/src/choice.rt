@@ -6,7 +6,7 @@ ghost use Rattle.sfi.specs.Choice.{between, chosen, part_of};
 use crate::kind::{Kind, Known};
 use crate::{Checked, Reason, Table, length_of};
 
-#[derive(Drop)]
+#[derive(Clone, Copy)]
 pub enum Chosen {
     Board,
     BuiltIn,

@@ -15,7 +15,7 @@ pub struct Kind {
     pub revision: u8,
 }
 
-#[derive(Drop)]
+#[derive(Clone, Copy)]
 pub enum Known {
     Is(Kind),
     Unknown,

@@ -13,14 +13,14 @@ ghost use Rattle.sfi.specs.Checks.{header_size, length_of_def, number_of, bad_le
 use kind::{Kind, Known};
 
 // A table that passes its checks: its kind, and its Length.
-#[derive(Drop)]
+#[derive(Clone, Copy)]
 pub struct Table {
     pub kind: Kind,
     pub length: usize,
 }
 
 // Why a table, an entry, a search or a choice is refused.
-#[derive(Drop)]
+#[derive(Clone, Copy)]
 pub enum Reason {
     // 40: slice under 24 bytes, Length under 24, over 65,536 or past the slice.
     BadLength,
@@ -42,13 +42,13 @@ pub enum Reason {
     Neither,
 }
 
-#[derive(Drop)]
+#[derive(Clone, Copy)]
 pub enum Checked {
     Passed(Table),
     Refused(Reason),
 }
 
-#[derive(Drop)]
+#[derive(Clone, Copy)]
 pub enum Entry {
     // Where the entry starts in the table.
     At(usize),

@@ -5,7 +5,7 @@ ghost use Rattle.sfi.specs.Search.{is_hit_def, located};
 use crate::kind::Kind;
 use crate::{Checked, Reason, Table, length_of};
 
-#[derive(Drop)]
+#[derive(Clone, Copy)]
 pub enum Found {
     // Where SYST starts in the memory.
     At(usize),

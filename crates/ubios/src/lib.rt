@@ -13,21 +13,21 @@ ghost use Rattle.ubios.specs.Checks.{number_of, bad_size, judged, checked, bad_c
 use name::is_named;
 
 // A table that passes its checks: where it stands in the region, and the length of its used part.
-#[derive(Drop)]
+#[derive(Clone, Copy)]
 pub struct Table {
     pub at: usize,
     pub used: usize,
 }
 
 // A root table that passes its checks, and how many slots it has.
-#[derive(Drop)]
+#[derive(Clone, Copy)]
 pub struct Root {
     pub table: Table,
     pub count: usize,
 }
 
 // Why a table, a root or a look-up is refused.
-#[derive(Drop)]
+#[derive(Clone, Copy)]
 pub enum Reason {
     // 30: the region runs past 2^64, or the header is not inside it.
     Outside,
@@ -51,13 +51,13 @@ pub enum Reason {
     BadName,
 }
 
-#[derive(Drop)]
+#[derive(Clone, Copy)]
 pub enum Checked {
     Passed(Table),
     Refused(Reason),
 }
 
-#[derive(Drop)]
+#[derive(Clone, Copy)]
 pub enum RootChecked {
     Passed(Root),
     Refused(Reason),

@@ -9,21 +9,21 @@ use crate::{Checked, Reason, Root, RootChecked, Table};
 
 // The slot, counted from 0 with the gaps, and the body's place and length in the region: the table's used part
 // behind its header.
-#[derive(Drop)]
+#[derive(Clone, Copy)]
 pub struct Body {
     pub slot: usize,
     pub at: usize,
     pub length: usize,
 }
 
-#[derive(Drop)]
+#[derive(Clone, Copy)]
 pub enum Found {
     // The one slot that leads to a passing table of the name.
     Only(Body),
     Refused(Reason),
 }
 
-#[derive(Drop)]
+#[derive(Clone, Copy)]
 enum Hit {
     None,
     Some(Body),
