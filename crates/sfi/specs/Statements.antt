@@ -115,7 +115,7 @@ FoundLowest = (memory : List ℕ) (offset : ℕ) → located memory ≡ At offse
 abbrev pub LowestFound : Type 0
 LowestFound = (memory : List ℕ) (offset : ℕ) → length memory ≡ 131072 → Lowest memory offset → located memory ≡ At offset
 
--- `no_hit`, `None-found`. 47 exactly if none of these offsets is a hit.
+-- `no_hit`, `none_found`. 47 exactly if none of these offsets is a hit.
 abbrev pub NoHit : Type 0
 NoHit = (memory : List ℕ) → located memory ≡ Refused NoSyst → (o : ℕ) → o % 16 ≡ 0 → is_hit_def memory o ≡ false
 
