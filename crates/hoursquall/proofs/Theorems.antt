@@ -24,10 +24,8 @@ use Rattle.le.proofs.Words.{word_below}
 use Rattle.le.proofs.Tests.{both, either}
 use Rattle.frame.specs.Layout.{header_size, frame_max, type_version, words_at, header_of}
 use Rattle.frame.specs.Reading.{parsed}
-use Rattle.frame.specs.declared.Header.{Header}
 use Rattle.frame.specs.declared.Words.{Words}
 use Rattle.frame.specs.declared.read.Parsed.{Parsed}
-use Rattle.frame.specs.declared.read.Parsed.TheVariants as Parsed
 use Rattle.frame.specs.declared.read.Reason.TheVariants.{FrameShort, FrameLong, WrongType, OtherReceiver}
 use Rattle.reassembly.specs.Step.{Stepped, number_of, step_of}
 use Rattle.reassembly.specs.Run.{answers, up_by, run, messages}

@@ -1,6 +1,6 @@
 -- The answers of the crate `sfi` as numbers: 0 where there is an answer, or which table is chosen, else the number of the refusal. A refusal leaves what the caller lent as it was.
 -- Assumes nothing.
-use Rattle.std.specs.Prelude.{ℕ, List, length}
+use Rattle.std.specs.Prelude.{ℕ, List}
 use Rattle.sfi.specs.declared.Checked.{Checked}
 use Rattle.sfi.specs.declared.Checked.TheVariants.{Passed, Refused as Failed}
 use Rattle.sfi.specs.declared.Entry.{Entry}
@@ -50,6 +50,6 @@ choose_number (NotChosen reason) = Checks.number_of reason
 
 -- Length of the table that is chosen, and so the length of the part (`part_passes` in `crates/sfi/proofs/Theorems.antt`)
 abbrev pub chosen_length_after : Chosen → List ℕ → List ℕ → ℕ → ℕ
-chosen_length_after Board board built_in before = Checks.length_of board
-chosen_length_after BuiltIn board built_in before = Checks.length_of built_in
+chosen_length_after Board board built_in before = Checks.length_of_def board
+chosen_length_after BuiltIn board built_in before = Checks.length_of_def built_in
 chosen_length_after (NotChosen reason) board built_in before = before
