@@ -9,8 +9,7 @@ use frame::read::Parsed;
 use frame::write::{Counted, Written};
 
 // Reads a frame for the receiver `us`; `header` receives its words in the frame's order.
-#[unsafe(no_mangle)]
-pub extern "C" fn hs_frame_parse(frame: &[u8], us: u32, header: &mut [u32; 7]) -> u32
+pub fn hs_frame_parse(frame: &[u8], us: u32, header: &mut [u32; 7]) -> u32
     ensures value { result ≡ parse_number (parsed us frame.now) }
     ensures header_after { header.new ≡ header_after (parsed us frame.now) header.old }
 {
@@ -40,8 +39,7 @@ fn tell_parsed(answer: Parsed, header: &mut [u32; 7]) -> u32
 }
 
 // How many frames a message of `total` bytes makes in pieces of `size`.
-#[unsafe(no_mangle)]
-pub extern "C" fn hs_frame_count(total: usize, size: usize, frames: &mut usize) -> u32
+pub fn hs_frame_count(total: usize, size: usize, frames: &mut usize) -> u32
     ensures value { result ≡ count_number (counted total size) }
     ensures frames_after { frames.new ≡ count_after (counted total size) frames.old }
 {
@@ -62,8 +60,7 @@ fn tell_counted(answer: Counted, frames: &mut usize) -> u32
 }
 
 // Writes one frame of a message at the start of `out`; `extent` receives the frame's length.
-#[unsafe(no_mangle)]
-pub extern "C" fn hs_frame_write(
+pub fn hs_frame_write(
     sequence: u8,
     id: u32,
     sender: u32,

@@ -8,8 +8,7 @@ ghost use Rattle.hoursquall.specs.FrameLog as Log;
 use framelog::{Logged, Written};
 
 // Reads a record; `extent` receives the length of the frame, which stands from byte 4 on.
-#[unsafe(no_mangle)]
-pub extern "C" fn hs_log_read(slice: &[u8], extent: &mut usize) -> u32
+pub fn hs_log_read(slice: &[u8], extent: &mut usize) -> u32
     ensures value { result ≡ Log.read_number (read_of record_size slice.now) }
     ensures extent_after { extent.new ≡ Log.frame_length_after (read_of record_size slice.now) extent.old }
 {
@@ -30,8 +29,7 @@ fn tell_read(answer: Logged, extent: &mut usize) -> u32
 }
 
 // Writes the record of a frame over all of `slice`.
-#[unsafe(no_mangle)]
-pub extern "C" fn hs_log_write(frame: &[u8], slice: &mut [u8]) -> u32
+pub fn hs_log_write(frame: &[u8], slice: &mut [u8]) -> u32
     ensures value { result ≡ Log.write_number (LogWriting.written record_size frame.now slice.old) }
     ensures slice_after { slice.new ≡ LogWriting.slice_after (LogWriting.written record_size frame.now slice.old) record_size frame.now slice.old }
 {

@@ -10,8 +10,7 @@ const DELIVERED: u32 = 100;
 
 // Takes one frame into a reassembly. `state` is a block of eight numbers (see `state_of`), `words` receives
 // the carried words of a message that is delivered.
-#[unsafe(no_mangle)]
-pub extern "C" fn hs_reassembly_step(
+pub fn hs_reassembly_step(
     state: &mut [u64; 8],
     frame: &[u8],
     us: u32,

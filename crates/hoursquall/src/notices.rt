@@ -15,13 +15,7 @@ fn positions_of(block: [usize; 2]) -> Positions
 }
 
 // Posts a notice to a ring.
-#[unsafe(no_mangle)]
-pub extern "C" fn hs_notice_post(
-    ring: &mut [u8],
-    positions: &mut [usize; 2],
-    id: u32,
-    body: &[u8],
-) -> u32
+pub fn hs_notice_post(ring: &mut [u8], positions: &mut [usize; 2], id: u32, body: &[u8]) -> u32
     ensures value { result ≡ post_number (Ring.posted ring.old (positions_of_def positions.old) id body.now) }
     ensures ring_after { ring.new ≡ Ring.ring_after (Ring.posted ring.old (positions_of_def positions.old) id body.now) ring.old (positions_of_def positions.old) id body.now }
     ensures positions_after { positions.new ≡ positions_after_post (Ring.posted ring.old (positions_of_def positions.old) id body.now) positions.old }
@@ -45,8 +39,7 @@ fn tell_posted(answer: Posted, positions: &mut [usize; 2]) -> u32
 
 // Takes the oldest notice of a ring; its data goes to the start of `out`, `id` and `extent` receive its
 // Notify ID and the data's length.
-#[unsafe(no_mangle)]
-pub extern "C" fn hs_notice_take(
+pub fn hs_notice_take(
     ring: &[u8],
     positions: &mut [usize; 2],
     out: &mut [u8],

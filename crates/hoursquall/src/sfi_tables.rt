@@ -17,8 +17,7 @@ const BUILT_IN: u32 = 102;
 
 // Checks the table at the start of `table`; `signature` and `extent` receive the signature of its kind and
 // its Length.
-#[unsafe(no_mangle)]
-pub extern "C" fn hs_sfi_check(table: &[u8], signature: &mut u32, extent: &mut usize) -> u32
+pub fn hs_sfi_check(table: &[u8], signature: &mut u32, extent: &mut usize) -> u32
     ensures value { result ≡ check_number (SfiChecks.checked table.now) }
     ensures signature_after { signature.new ≡ signature_after (SfiChecks.checked table.now) signature.old }
     ensures extent_after { extent.new ≡ table_length_after (SfiChecks.checked table.now) extent.old }
@@ -43,8 +42,7 @@ fn tell_checked(answer: Checked, signature: &mut u32, extent: &mut usize) -> u32
 }
 
 // Where entry k of a table starts, counted from 0; `offset` receives it.
-#[unsafe(no_mangle)]
-pub extern "C" fn hs_sfi_entry(table: &[u8], k: usize, offset: &mut usize) -> u32
+pub fn hs_sfi_entry(table: &[u8], k: usize, offset: &mut usize) -> u32
     ensures value { result ≡ entry_number (SfiChecks.entry_of table.now k) }
     ensures offset_after { offset.new ≡ entry_after (SfiChecks.entry_of table.now k) offset.old }
 {
@@ -65,8 +63,7 @@ fn tell_entry(answer: Entry, offset: &mut usize) -> u32
 }
 
 // Looks for SYST in the memory from 0xE0000 to 0xFFFFF; `offset` receives where it starts in it.
-#[unsafe(no_mangle)]
-pub extern "C" fn hs_sfi_find_syst(memory: &[u8], offset: &mut usize) -> u32
+pub fn hs_sfi_find_syst(memory: &[u8], offset: &mut usize) -> u32
     ensures value { result ≡ syst_number (located memory.now) }
     ensures offset_after { offset.new ≡ syst_after (located memory.now) offset.old }
 {
@@ -87,13 +84,7 @@ fn tell_found(answer: Found, offset: &mut usize) -> u32
 }
 
 // Chooses between the board's table and the built-in one; `extent` receives Length of the one chosen.
-#[unsafe(no_mangle)]
-pub extern "C" fn hs_sfi_choose(
-    signature: u32,
-    board: &[u8],
-    built_in: &[u8],
-    extent: &mut usize,
-) -> u32
+pub fn hs_sfi_choose(signature: u32, board: &[u8], built_in: &[u8], extent: &mut usize) -> u32
     ensures value { result ≡ choose_number (chosen signature board.now built_in.now) }
     ensures extent_after { extent.new ≡ chosen_length_after (chosen signature board.now built_in.now) board.now built_in.now extent.old }
 {

@@ -9,13 +9,7 @@ use ubios::lookup::Found;
 use ubios::{Checked, RootChecked};
 
 // Checks the table at an address; `part` receives the place and the length of its used part.
-#[unsafe(no_mangle)]
-pub extern "C" fn hs_ubios_table(
-    region: &[u8],
-    base: u64,
-    address: u64,
-    part: &mut [usize; 2],
-) -> u32
+pub fn hs_ubios_table(region: &[u8], base: u64, address: u64, part: &mut [usize; 2]) -> u32
     ensures value { result ≡ table_number (checked table_header region.now base address) }
     ensures part_after { part.new ≡ part_after (checked table_header region.now base address) part.old }
 {
@@ -36,13 +30,7 @@ fn tell_checked(answer: Checked, part: &mut [usize; 2]) -> u32
 }
 
 // Checks the root table likewise; `root` also receives how many slots it has.
-#[unsafe(no_mangle)]
-pub extern "C" fn hs_ubios_root(
-    region: &[u8],
-    base: u64,
-    address: u64,
-    root: &mut [usize; 3],
-) -> u32
+pub fn hs_ubios_root(region: &[u8], base: u64, address: u64, root: &mut [usize; 3]) -> u32
     ensures value { result ≡ root_number (root_checked region.now base address) }
     ensures root_after { root.new ≡ root_part_after (root_checked region.now base address) root.old }
 {
@@ -65,14 +53,7 @@ fn tell_root(answer: RootChecked, root: &mut [usize; 3]) -> u32
 
 // Looks for the table of a name through the root at an address; `body` receives its slot, and the place and
 // the length of its body.
-#[unsafe(no_mangle)]
-pub extern "C" fn hs_ubios_find(
-    region: &[u8],
-    base: u64,
-    root: u64,
-    name: &[u8],
-    body: &mut [usize; 3],
-) -> u32
+pub fn hs_ubios_find(region: &[u8], base: u64, root: u64, name: &[u8], body: &mut [usize; 3]) -> u32
     ensures value { result ≡ find_number (found region.now base root name.now) }
     ensures body_after { body.new ≡ body_after (found region.now base root name.now) body.old }
 {

@@ -80,7 +80,7 @@ fn write_player(player: Player, block: &mut [u64; 9])
 }
 
 // Plays a part of a log and lists it as text at the start of `out`; answers how many bytes of text were written. `read`
-// receives how many bytes of the part were played. `player` is a block of nine numbers (see `playerOf`).
+// receives how many bytes of the part were played. `player` is a block of nine numbers (see `player_of_def`).
 #[unsafe(no_mangle)]
 pub extern "C" fn hs_replay_chunk(
     player: &mut [u64; 9],
