@@ -20,26 +20,26 @@ fn envelope(sequence: u8) -> Envelope {
     }
 }
 
-fn count(total: usize, piece: usize) {
+fn count(rt: &impl Print, total: usize, piece: usize) {
     let said = [total as u64, piece as u64];
-    report::pattern(b"\n  count, % bytes in pieces of %", &said);
+    report::pattern(rt, b"\n  count, % bytes in pieces of %", &said);
     match frame::write::count(total, piece) {
-        Counted::Frames(n) => report::pattern(b": %", &[n as u64]),
-        Counted::Refused(reason) => report::refusal(reason.number()),
+        Counted::Frames(n) => report::pattern(rt, b": %", &[n as u64]),
+        Counted::Refused(reason) => report::refusal(rt, reason.number()),
     }
 }
 
-fn say_written(written: Written, out: &[u8]) {
+fn say_written(rt: &impl Print, written: Written, out: &[u8]) {
     match written {
         Written::Frame(n) => {
-            report::pattern(b": % bytes:", &[n as u64]);
-            report::bytes(le::head(out, n));
+            report::pattern(rt, b": % bytes:", &[n as u64]);
+            report::bytes(rt, le::head(out, n));
         }
-        Written::Refused(reason) => report::refusal(reason.number()),
+        Written::Refused(reason) => report::refusal(rt, reason.number()),
     }
 }
 
-fn write(message: &[u8], piece: usize, index: usize, out: &mut [u8]) {
+fn write(rt: &impl Print, message: &[u8], piece: usize, index: usize, out: &mut [u8]) {
     let said = [
         message.len() as u64,
         piece as u64,
@@ -47,23 +47,25 @@ fn write(message: &[u8], piece: usize, index: usize, out: &mut [u8]) {
         out.len() as u64,
     ];
     report::pattern(
+        rt,
         b"\n  write, % bytes in pieces of %, index %, output of %",
         &said,
     );
     let written = frame::write::write(envelope(0), message, piece, index, out);
-    say_written(written, out);
+    say_written(rt, written, out);
 }
 
 // An empty message with that sequence number.
-fn write_numbered(sequence: u8, out: &mut [u8]) {
-    report::pattern(b"\n  write, 0 bytes, sequence %", &[sequence as u64]);
+fn write_numbered(rt: &impl Print, sequence: u8, out: &mut [u8]) {
+    report::pattern(rt, b"\n  write, 0 bytes, sequence %", &[sequence as u64]);
     say_written(
+        rt,
         frame::write::write(envelope(sequence), &[], PIECE, 0, out),
         out,
     );
 }
 
-fn say_header(h: Header) {
+fn say_header(rt: &impl Print, h: Header) {
     let words = h.words;
     let said = [
         words.sequence as u64,
@@ -75,6 +77,7 @@ fn say_header(h: Header) {
         words.total as u64,
     ];
     report::pattern(
+        rt,
         b": sequence %, index %, message #, sender %, receiver %, word #, total %, data",
         &said,
     );
@@ -89,14 +92,14 @@ fn second(byte_0: u8, byte_1: u8) -> [u8; 257] {
     out
 }
 
-fn read(what: &[u8], frame: &[u8]) {
-    report::start_line(what);
+fn read(rt: &impl Print, what: &[u8], frame: &[u8]) {
+    report::start_line(rt, what);
     match frame::read::parse(frame, RECEIVER) {
         Parsed::Header(h) => {
-            say_header(h);
-            report::bytes(frame::read::data(frame));
+            say_header(rt, h);
+            report::bytes(rt, frame::read::data(frame));
         }
-        Parsed::Refused(reason) => report::refusal(reason.number()),
+        Parsed::Refused(reason) => report::refusal(rt, reason.number()),
     }
 }
 
@@ -108,35 +111,40 @@ fn read_refusal(byte_0: u8, length: usize, us: u32) -> u64 {
     }
 }
 
-fn run_writer(five: &[u8], bytes: &[u8], out: &mut [u8]) {
-    count(5, PIECE);
-    write(five, PIECE, 0, out);
-    write(five, PIECE, 1, out);
-    write(five, PIECE, 2, out);
-    count(0, PIECE);
-    write(&[], PIECE, 0, &mut [0u8; 24]);
-    write_numbered(255, out);
-    count(4096, Header::PIECE_MAX);
+fn run_writer(rt: &impl Print, five: &[u8], bytes: &[u8], out: &mut [u8]) {
+    count(rt, 5, PIECE);
+    write(rt, five, PIECE, 0, out);
+    write(rt, five, PIECE, 1, out);
+    write(rt, five, PIECE, 2, out);
+    count(rt, 0, PIECE);
+    write(rt, &[], PIECE, 0, &mut [0u8; 24]);
+    write_numbered(rt, 255, out);
+    count(rt, 4096, Header::PIECE_MAX);
     let longest = le::head(bytes, Header::MESSAGE_MAX);
-    write(longest, Header::PIECE_MAX, 17, out);
+    write(rt, longest, Header::PIECE_MAX, 17, out);
 }
 
-fn run_refusals(five: &[u8], bytes: &[u8], out: &mut [u8]) {
-    count(4097, Header::PIECE_MAX);
-    count(5, 0);
-    write(bytes, Header::PIECE_MAX, 0, out);
-    write(five, 233, 0, out);
-    write(five, PIECE, 3, out);
-    write(five, PIECE, 0, &mut [0u8; 25]);
+fn run_refusals(rt: &impl Print, five: &[u8], bytes: &[u8], out: &mut [u8]) {
+    count(rt, 4097, Header::PIECE_MAX);
+    count(rt, 5, 0);
+    write(rt, bytes, Header::PIECE_MAX, 0, out);
+    write(rt, five, 233, 0, out);
+    write(rt, five, PIECE, 3, out);
+    write(rt, five, PIECE, 0, &mut [0u8; 25]);
 }
 
-fn run_reader() {
+fn run_reader(rt: &impl Print) {
     let right = Header::TYPE_VERSION;
     read(
+        rt,
         b"read, index 1, by receiver 11",
         le::head(&second(right, 0), 26),
     );
-    read(b"read, byte 1 is 0xA5", le::head(&second(right, 0xA5), 26));
+    read(
+        rt,
+        b"read, byte 1 is 0xA5",
+        le::head(&second(right, 0xA5), 26),
+    );
     let said = [
         read_refusal(right, 23, RECEIVER),
         read_refusal(right, 257, RECEIVER),
@@ -144,6 +152,7 @@ fn run_reader() {
         read_refusal(right, 26, 12),
     ];
     report::pattern(
+        rt,
         b"\n  read, its first 23 bytes: refused with %\n  read, 257 bytes: refused with %\n  read, byte 0 is 0x12: refused with %\n  read, index 1, by receiver 12: refused with %",
         &said,
     );
@@ -152,26 +161,25 @@ fn run_reader() {
 // Byte k becomes (k + 1) mod 256.
 fn count_up(out: &mut [u8]) {
     let mut byte: u8 = 0;
-    let mut k = 0;
-    while k < out.len() {
+    for x in out.iter_mut() {
         byte = std::num::wrapping_add_u8(byte, 1);
-        out[k] = byte;
-        k += 1;
+        *x = byte;
     }
 }
 
-fn run_messages(bytes: &mut [u8]) {
+fn run_messages(rt: &impl Print, bytes: &mut [u8]) {
     count_up(bytes);
     let five = le::head(bytes, 5);
     let mut out = [0u8; Header::FRAME_MAX];
-    run_writer(five, bytes, &mut out);
-    run_refusals(five, bytes, &mut out);
+    run_writer(rt, five, bytes, &mut out);
+    run_refusals(rt, five, bytes, &mut out);
 }
 
-pub fn run() {
+pub fn run(rt: &impl Print) {
     report::text(
+        rt,
         b"Frames of message 0x01020304, sender 10, receiver 11, word 0xFFFFFFFF; byte k of a message is k + 1 modulo 256",
     );
-    run_messages(&mut [0u8; 4097]);
-    run_reader();
+    run_messages(rt, &mut [0u8; 4097]);
+    run_reader(rt);
 }

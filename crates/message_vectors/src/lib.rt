@@ -12,7 +12,7 @@ const RECEIVER: u32 = 11;
 
 const STATUS: u32 = 0xFFFF_FFFF;
 
-fn say_message(words: Words, message: &[u8]) {
+fn say_message(rt: &impl Print, words: Words, message: &[u8]) {
     let said = [
         words.sequence as u64,
         words.id as u64,
@@ -20,30 +20,31 @@ fn say_message(words: Words, message: &[u8]) {
         words.status as u64,
     ];
     report::pattern(
+        rt,
         b": delivered, sequence %, message #, sender %, word #, data",
         &said,
     );
-    report::bytes(message);
+    report::bytes(rt, message);
 }
 
-fn say_verdict(verdict: Verdict, buffer: &[u8]) {
+fn say_verdict(rt: &impl Print, verdict: Verdict, buffer: &[u8]) {
     match verdict {
-        Verdict::More => report::text(b": more wanted"),
-        Verdict::Delivered(words, n) => say_message(words, le::head(buffer, n)),
-        Verdict::Refused(reason) => report::refusal(reason.number()),
+        Verdict::More => report::text(rt, b": more wanted"),
+        Verdict::Delivered(words, n) => say_message(rt, words, le::head(buffer, n)),
+        Verdict::Refused(reason) => report::refusal(rt, reason.number()),
     }
 }
 
-fn say_open(open: Progress) {
+fn say_open(rt: &impl Print, open: Progress) {
     let words = open.words;
     let said = [open.next as u64, open.filled as u64, words.total as u64];
-    report::pattern(b"; index % is next, % of % bytes", &said);
+    report::pattern(rt, b"; index % is next, % of % bytes", &said);
 }
 
-fn say_state(state: State) {
+fn say_state(rt: &impl Print, state: State) {
     match state {
-        State::Fresh => report::text(b"; fresh"),
-        State::Open(open) => say_open(open),
+        State::Fresh => report::text(rt, b"; fresh"),
+        State::Open(open) => say_open(rt, open),
     }
 }
 
@@ -73,20 +74,21 @@ struct Receiver {
     buffer: [u8; 8],
 }
 
-fn receive(what: &[u8], before: Receiver, frame: &[u8]) -> Receiver {
-    report::start_line(what);
+fn receive(rt: &impl Print, what: &[u8], before: Receiver, frame: &[u8]) -> Receiver {
+    report::start_line(rt, what);
     let now = before.state;
     let mut buffer = before.buffer;
     let answer = reassembly::step(now, frame, RECEIVER, &mut buffer);
     let verdict = answer.verdict;
     let state = answer.state;
-    say_verdict(verdict, &buffer);
-    say_state(state);
+    say_verdict(rt, verdict, &buffer);
+    say_state(rt, state);
     Receiver { state, buffer }
 }
 
 // A frame as it was written, cut or filled up with zeros to a length.
 fn send_as(
+    rt: &impl Print,
     what: &[u8],
     before: Receiver,
     e: Envelope,
@@ -95,50 +97,64 @@ fn send_as(
     length: usize,
 ) -> Receiver {
     let out = lay(e, total, index, Header::TYPE_VERSION);
-    receive(what, before, le::head(&out, length))
+    receive(rt, what, before, le::head(&out, length))
 }
 
-fn send(what: &[u8], before: Receiver, total: usize, index: usize, length: usize) -> Receiver {
+fn send(
+    rt: &impl Print,
+    what: &[u8],
+    before: Receiver,
+    total: usize,
+    index: usize,
+    length: usize,
+) -> Receiver {
     let e = envelope(0, RECEIVER, STATUS);
-    send_as(what, before, e, total, index, length)
+    send_as(rt, what, before, e, total, index, length)
 }
 
 // The frame with Index 1 of five bytes that differs in a word.
-fn send_other(what: &[u8], before: Receiver, byte_0: u8, receiver: u32, status: u32) -> Receiver {
+fn send_other(
+    rt: &impl Print,
+    what: &[u8],
+    before: Receiver,
+    byte_0: u8,
+    receiver: u32,
+    status: u32,
+) -> Receiver {
     let out = lay(envelope(0, receiver, status), 5, 1, byte_0);
-    receive(what, before, le::head(&out, 26))
+    receive(rt, what, before, le::head(&out, 26))
 }
 
 // A whole message, and then one that loses its second frame, which comes too late.
-fn run_loss(fresh: Receiver) -> Receiver {
-    let first = send(b"index 0", fresh, 5, 0, 26);
-    let second = send(b"index 1", first, 5, 1, 26);
-    let third = send(b"index 2", second, 5, 2, 25);
-    let again = send(b"index 0", third, 5, 0, 26);
-    let lost = send(b"index 2, index 1 lost", again, 5, 2, 25);
-    send(b"index 1, nothing open", lost, 5, 1, 26)
+fn run_loss(rt: &impl Print, fresh: Receiver) -> Receiver {
+    let first = send(rt, b"index 0", fresh, 5, 0, 26);
+    let second = send(rt, b"index 1", first, 5, 1, 26);
+    let third = send(rt, b"index 2", second, 5, 2, 25);
+    let again = send(rt, b"index 0", third, 5, 0, 26);
+    let lost = send(rt, b"index 2, index 1 lost", again, 5, 2, 25);
+    send(rt, b"index 1, nothing open", lost, 5, 1, 26)
 }
 
 // Frames that leave a message open, and one that does not.
-fn run_open(fresh: Receiver) -> Receiver {
+fn run_open(rt: &impl Print, fresh: Receiver) -> Receiver {
     let right = Header::TYPE_VERSION;
-    let first = send(b"index 0", fresh, 5, 0, 26);
-    let cut = send(b"index 1, its first 23 bytes", first, 5, 1, 23);
-    let long = send(b"index 1 and more, 257 bytes", cut, 5, 1, 257);
-    let typed = send_other(b"index 1, byte 0 is 0x12", long, 0x12, RECEIVER, STATUS);
-    let other = send_other(b"index 1, for receiver 12", typed, right, 12, STATUS);
-    send_other(b"index 1, word 0x00000000", other, right, RECEIVER, 0)
+    let first = send(rt, b"index 0", fresh, 5, 0, 26);
+    let cut = send(rt, b"index 1, its first 23 bytes", first, 5, 1, 23);
+    let long = send(rt, b"index 1 and more, 257 bytes", cut, 5, 1, 257);
+    let typed = send_other(rt, b"index 1, byte 0 is 0x12", long, 0x12, RECEIVER, STATUS);
+    let other = send_other(rt, b"index 1, for receiver 12", typed, right, 12, STATUS);
+    send_other(rt, b"index 1, word 0x00000000", other, right, RECEIVER, 0)
 }
 
 // A message that is numbered, and frames of which byte 1 differs: the next Index, and one that is not.
-fn run_numbered(fresh: Receiver) -> Receiver {
+fn run_numbered(rt: &impl Print, fresh: Receiver) -> Receiver {
     let e = envelope(255, RECEIVER, STATUS);
     let other = envelope(254, RECEIVER, STATUS);
-    let whole = send_as(b"index 0 of 2 bytes, sequence 255", fresh, e, 2, 0, 26);
-    let first = send_as(b"index 0, sequence 255", whole, e, 5, 0, 26);
-    let second = send_as(b"index 1, sequence 254", first, other, 5, 1, 26);
-    let again = send_as(b"index 0, sequence 255", second, e, 5, 0, 26);
-    send_as(b"index 2, sequence 254", again, other, 5, 2, 25)
+    let whole = send_as(rt, b"index 0 of 2 bytes, sequence 255", fresh, e, 2, 0, 26);
+    let first = send_as(rt, b"index 0, sequence 255", whole, e, 5, 0, 26);
+    let second = send_as(rt, b"index 1, sequence 254", first, other, 5, 1, 26);
+    let again = send_as(rt, b"index 0, sequence 255", second, e, 5, 0, 26);
+    send_as(rt, b"index 2, sequence 254", again, other, 5, 2, 25)
 }
 
 // An open state for which no frame can have come.
@@ -164,16 +180,20 @@ fn starting(state: State) -> Receiver {
 }
 
 // First frames that begin nothing.
-fn run_first(fresh: Receiver) {
-    let long = send(b"index 0 of 9 bytes", fresh, 9, 0, 26);
-    let bare = send(b"index 0, without its data", long, 5, 0, 24);
-    send(b"index 0, 6 bytes of data", bare, 5, 0, 30);
-    send(b"index 0, from next 0", starting(no_state()), 5, 0, 26);
+fn run_first(rt: &impl Print, fresh: Receiver) {
+    let long = send(rt, b"index 0 of 9 bytes", fresh, 9, 0, 26);
+    let bare = send(rt, b"index 0, without its data", long, 5, 0, 24);
+    send(rt, b"index 0, 6 bytes of data", bare, 5, 0, 30);
+    send(rt, b"index 0, from next 0", starting(no_state()), 5, 0, 26);
 }
 
-pub fn run() {
+pub fn run(rt: &impl Print) {
     report::text(
+        rt,
         b"\nReassembly of a message of 5 bytes in pieces of 2, for receiver 11, buffer of 8",
     );
-    run_first(run_numbered(run_open(run_loss(starting(State::Fresh)))));
+    run_first(
+        rt,
+        run_numbered(rt, run_open(rt, run_loss(rt, starting(State::Fresh)))),
+    );
 }

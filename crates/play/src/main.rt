@@ -5,9 +5,15 @@
 // on ends there.
 #![tactic(auto)]
 
-use libc::STDOUT_FILENO;
-use replay::{Player, Receiver};
+ghost use Rattle.std.specs.Prelude.{◌≤◌, length};
 
+use replay::{Player, Receiver};
+use std::fs;
+use std::io::Read;
+use std::rt::{Env, Files};
+
+// Room for any path that the system takes.
+const PATH_SIZE: usize = 4096;
 // The input's buffer: 252 records, so that what fills it ends at a record's end. What does not fill it is the log's end.
 const CHUNK: usize = 65520;
 // The output's: room for the longest line of each of them, so that one call plays them all.
@@ -26,51 +32,71 @@ fn stopped(player: Player) -> Turn {
     }
 }
 
-fn open(argument: usize) -> i32 {
-    let mut path = io::buffer();
-    let n = os::arg(argument, &mut path);
-    os::open_read(&path[..n])
+// A path that is not UTF-8 cannot be opened either: std takes no other.
+fn open<R: Files + Env>(rt: &R, argument: usize) -> Option<R::File> {
+    let mut path = [0u8; PATH_SIZE];
+    let n = rt.arg(argument, &mut path).ok()?;
+    let path = str::from_utf8(&path[..n]).ok()?;
+    fs::open(rt, path).ok()
+}
+
+// Reads until the buffer is full, the file ends or a read fails, and answers how many bytes stand at its start.
+fn read_full(file: &mut impl Read, buffer: &mut [u8]) -> usize
+    ensures { result ≤ length buffer.new }
+{
+    let mut done = 0;
+    while done < buffer.len() {
+        match file.read(&mut buffer[done..]) {
+            Ok(0) | Err(_) => break,
+            Ok(n) => done += n,
+        }
+    }
+    done
 }
 
 // A byte more than a receiver has is read, so that a longer file is seen to be one.
-fn read_receiver() -> Receiver {
+fn read_receiver(rt: &(impl Files + Env)) -> Receiver {
     let mut file = [0u8; 5];
-    let fd = open(1);
-    let n = io::read_full(fd, &mut file);
-    libc::close(fd);
+    let n = match open(rt, 1) {
+        Some(mut named) => read_full(&mut named, &mut file),
+        None => 0,
+    };
     replay::receiver_in(&file[..n])
 }
 
-fn write(text: &[u8]) -> bool {
-    let is_written = io::write_all(STDOUT_FILENO, text);
-    if !is_written {
-        os::fail(b"standard output");
+fn write(rt: &(impl Print + Eprint), text: &[u8]) -> bool {
+    match rt.write_all(text) {
+        Ok(()) => true,
+        Err(e) => {
+            let _ = eprintln!(rt; "standard output: {e}");
+            false
+        }
     }
-    is_written
 }
 
 // Plays what was read, and writes its lines: what a call leaves unread is handed in again. A call that reads nothing
 // has no record number left.
 fn play_part(
+    rt: &(impl Print + Eprint),
     player: Player,
     part: &[u8],
     us: u32,
-    buffer: &mut [u8; 4096],
+    buffer: &mut [u8; replay::BUFFER_SIZE],
     text: &mut [u8],
 ) -> Turn {
     let mut current = player;
-    let mut at = 0;
-    while at < part.len() {
-        let listed = replay::play_chunk(current, le::tail(part, at), us, buffer, text);
+    let mut rest = part;
+    while !rest.is_empty() {
+        let listed = replay::play_chunk(current, rest, us, buffer, text);
         let next = listed.player;
         current = next;
-        if !write(le::head(text, listed.written)) {
+        if !write(rt, le::head(text, listed.written)) {
             return stopped(current);
         }
         if listed.read == 0 {
             return stopped(current);
         }
-        at += listed.read;
+        rest = le::tail(rest, listed.read);
     }
     Turn {
         player: current,
@@ -78,35 +104,32 @@ fn play_part(
     }
 }
 
-// A proved loop has to end, and nothing says that a file does: it counts its turns down, from a number that no run
-// uses up.
-fn play_log(fd: i32, us: u32) {
+// A proved loop has to end, and nothing says that a file does: the turns are counted, to a number that no run reaches.
+fn play_log(rt: &(impl Print + Eprint), log: &mut impl Read, us: u32) {
     let mut buffer = [0u8; replay::BUFFER_SIZE];
     let mut chunk = [0u8; CHUNK];
     let mut text = [0u8; TEXT];
     let mut player = Player::new();
-    let mut turns = u64::MAX;
-    while turns > 0 {
-        let n = io::read_full(fd, &mut chunk);
-        let turn = play_part(player, &chunk[..n], us, &mut buffer, &mut text);
+    for _ in 0..u64::MAX {
+        let n = read_full(log, &mut chunk);
+        let turn = play_part(rt, player, &chunk[..n], us, &mut buffer, &mut text);
         if !turn.goes_on || n < CHUNK {
             return;
         }
         let next = turn.player;
         player = next;
-        turns -= 1;
     }
 }
 
-fn main() {
-    match read_receiver() {
+fn main(rt: HostRuntime) {
+    match read_receiver(&rt) {
         Receiver::Known(us) => {
-            let fd = open(2);
-            play_log(fd, us);
-            libc::close(fd);
+            if let Some(mut log) = open(&rt, 2) {
+                play_log(&rt, &mut log, us);
+            }
         }
         Receiver::Missing => {
-            write(&replay::no_receiver());
+            write(&rt, &replay::no_receiver());
         }
     }
 }

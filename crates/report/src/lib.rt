@@ -1,61 +1,64 @@
 // The lines that the programs print: text with numbers in it, and lists of bytes.
 #![tactic(auto)]
 
-use libc::STDOUT_FILENO;
-
 // How many bytes of a list are shown.
 const SHOWN: usize = 32;
 
-pub fn text(s: &[u8]) {
-    io::write_all(STDOUT_FILENO, s);
+// A write that fails is passed over: what is printed is compared with what is kept, and a gap shows there.
+pub fn text(rt: &impl Print, s: &[u8]) {
+    let _ = rt.write_all(s);
 }
 
 // A line starts with what is done, and what came out follows a colon. The next line's start ends it.
-pub fn start_line(what: &[u8]) {
-    text(b"\n  ");
-    text(what);
+pub fn start_line(rt: &impl Print, what: &[u8]) {
+    text(rt, b"\n  ");
+    text(rt, what);
 }
 
-fn digit(d: u8) {
-    text(le::head(le::tail(b"0123456789ABCDEF", d as usize), 1));
+fn digit(rt: &impl Print, d: u8) {
+    text(rt, le::head(le::tail(b"0123456789ABCDEF", d as usize), 1));
 }
 
 // A byte in two capital digits.
-pub fn byte(x: u8) {
-    digit(x / 16);
-    digit(x % 16);
+pub fn byte(rt: &impl Print, x: u8) {
+    digit(rt, x / 16);
+    digit(rt, x % 16);
 }
 
 // A word in eight digits.
-fn word(x: u64) {
-    text(b"0x");
+fn word(rt: &impl Print, x: u64) {
+    text(rt, b"0x");
     let w = le::word::u64_bytes(x);
-    byte(w[3]);
-    byte(w[2]);
-    byte(w[1]);
-    byte(w[0]);
+    byte(rt, w[3]);
+    byte(rt, w[2]);
+    byte(rt, w[1]);
+    byte(rt, w[0]);
 }
 
-fn low_byte(x: u64) {
+fn low_byte(rt: &impl Print, x: u64) {
     let w = le::word::u64_bytes(x);
-    byte(w[0]);
+    byte(rt, w[0]);
+}
+
+fn decimal(rt: &impl Print, x: u64) {
+    let _ = rt.print(x);
 }
 
 // Prints a byte of a pattern, and answers how many values it takes.
-fn symbol(c: u8, x: u64) -> usize {
+fn symbol(rt: &impl Print, c: u8, x: u64) -> usize {
     if c == b'%' {
-        io::print_decimal(STDOUT_FILENO, x);
+        decimal(rt, x);
         return 1;
     }
     if c == b'#' {
-        word(x);
+        word(rt, x);
         return 1;
     }
     if c == b'$' {
-        low_byte(x);
+        low_byte(rt, x);
         return 1;
     }
-    text(&[c]);
+    text(rt, &[c]);
     0
 }
 
@@ -64,38 +67,33 @@ fn value(values: &[u64], i: usize) -> u64 {
 }
 
 // A text in which each % is the next value in decimal, each # the next one as a word, and each $ as a byte.
-pub fn pattern(s: &[u8], values: &[u64]) {
+pub fn pattern(rt: &impl Print, s: &[u8], values: &[u64]) {
     let mut used = 0;
-    let mut i = 0;
-    while i < s.len() {
-        let taken = symbol(s[i], value(values, used));
+    for c in s {
+        let taken = symbol(rt, *c, value(values, used));
         used = std::num::wrapping_add_usize(used, taken);
-        i += 1;
     }
 }
 
-fn next_byte(x: u8) {
-    text(b" ");
-    byte(x);
+fn next_byte(rt: &impl Print, x: u8) {
+    text(rt, b" ");
+    byte(rt, x);
 }
 
-fn end_bytes(s: &[u8]) {
+fn end_bytes(rt: &impl Print, s: &[u8]) {
     if SHOWN < s.len() {
-        text(b" ..");
+        text(rt, b" ..");
     }
 }
 
 // A blank and a byte for each of the first bytes, and two dots for any more.
-pub fn bytes(s: &[u8]) {
-    let first = le::head(s, SHOWN);
-    let mut i = 0;
-    while i < first.len() {
-        next_byte(first[i]);
-        i += 1;
+pub fn bytes(rt: &impl Print, s: &[u8]) {
+    for x in le::head(s, SHOWN) {
+        next_byte(rt, *x);
     }
-    end_bytes(s);
+    end_bytes(rt, s);
 }
 
-pub fn refusal(n: u32) {
-    pattern(b": refused with %", &[n as u64]);
+pub fn refusal(rt: &impl Print, n: u32) {
+    pattern(rt, b": refused with %", &[n as u64]);
 }

@@ -130,7 +130,7 @@ fn choose<'a>(signature: u32, board: &'a [u8], built_in: &'a [u8]) -> Choice {
     }
 }
 
-fn run_checks(cpus: &[u8]) {
+fn run_checks(rt: &impl Print, cpus: &[u8]) {
     let unsealed = unsealed(Kind::CPUS, 28, 1);
     let missing = checksum(&unsealed);
     let sum = check(&unsealed, Kind::CPUS);
@@ -153,13 +153,14 @@ fn run_checks(cpus: &[u8]) {
         wake.given,
     ];
     report::pattern(
+        rt,
         b"\n  the checksum of CPUS with Length 28, Revision 1, the rest 0: 0x$\n  check, CPUS of 28 bytes: CPUS, % bytes\n  check, its first 27 bytes: refused with %\n  check, another signature: refused with %\n  check, Length 27: refused with %\n  check, Checksum 0: refused with %\n  check, MMAP with an entry of 40 bytes: refused with %\n  check, WAKE of 40 bytes: refused with %\n  check, WAKE of 32 bytes: WAKE, % bytes",
         &said,
     );
 }
 
 // Revisions are read from the listed one on: 1, and 2 for MTMR and WAKE. A newer table has entries of the listed size.
-fn run_revisions() {
+fn run_revisions(rt: &impl Print) {
     let freq_1 = check_laid(Kind::FREQ, 36, 1);
     let freq_2 = check_laid(Kind::FREQ, 36, 2);
     let freq_255 = check_laid(Kind::FREQ, 36, 255);
@@ -177,16 +178,18 @@ fn run_revisions() {
         wake_3.given,
     ];
     report::pattern(
+        rt,
         b"\n  check, FREQ of Revision 0: refused with %\n  check, FREQ of Revision 1: FREQ, % bytes\n  check, FREQ of Revision 2: FREQ, % bytes\n  check, FREQ of Revision 255: FREQ, % bytes\n  check, FREQ of Revision 2 with an entry of 16 bytes: refused with %\n  check, MTMR of Revision 1: refused with %\n  check, MTMR of Revision 3: MTMR, % bytes\n  check, WAKE of Revision 1: refused with %\n  check, WAKE of Revision 3: WAKE, % bytes",
         &said,
     );
 }
 
-fn run_entries(cpus: &[u8]) {
+fn run_entries(rt: &impl Print, cpus: &[u8]) {
     let first = entry(cpus, 0);
     let second = entry(cpus, 1);
     let mapped = entry(&laid(Kind::MMAP, 96, 1), 1);
     report::pattern(
+        rt,
         b"\n  entry 0: at %\n  entry 1: refused with %\n  entry 1, MMAP of 96 bytes: at %",
         &[first.given, second.refusal, mapped.given],
     );
@@ -206,7 +209,7 @@ fn find_with(length: u32, revision: u8, at: usize, memory: &mut [u8]) -> Said {
 }
 
 // A SYST that runs past its page, one that ends with it, of several revisions, and a second one behind that.
-fn search(memory: &mut [u8]) {
+fn search(rt: &impl Print, memory: &mut [u8]) {
     let short = find_syst(le::head(memory, 131071));
     let past = find_with(40, 1, SYST_AT, memory);
     let older = find_with(32, 0, SYST_AT, memory);
@@ -214,6 +217,7 @@ fn search(memory: &mut [u8]) {
     let one = find_with(32, 1, SYST_AT, memory);
     let two = find_with(32, 1, SECOND_AT, memory);
     report::pattern(
+        rt,
         b"\n  find SYST, at 4064 with Length 32: at %\n  find SYST, at 4064 and at 8192: at %\n  find SYST, at 4064 with Length 40: refused with %\n  find SYST, at 4064 of Revision 0: refused with %\n  find SYST, at 4064 of Revision 2: at %\n  find SYST, 131071 bytes: refused with %",
         &[
             one.given,
@@ -226,7 +230,7 @@ fn search(memory: &mut [u8]) {
     );
 }
 
-fn run_choice(cpus: &[u8]) {
+fn run_choice(rt: &impl Print, cpus: &[u8]) {
     let wrong = le::head(cpus, 27);
     let board = choose(Kind::CPUS, cpus, wrong);
     let both = choose(Kind::CPUS, &laid(Kind::CPUS, 32, 1), cpus);
@@ -245,6 +249,7 @@ fn run_choice(cpus: &[u8]) {
         unknown.refusal,
     ];
     report::pattern(
+        rt,
         b"\n  choose CPUS, the board's passes: board, % bytes\n  choose CPUS, both pass, the built-in one with 28 bytes: board, % bytes\n  choose CPUS, the board's is of Revision 2: board, % bytes\n  choose CPUS, the board's is of Revision 0: built-in, % bytes\n  choose CPUS, the board's fails: built-in, % bytes\n  choose CPUS, both fail: refused with %\n  choose, another signature: refused with %",
         &said,
     );
@@ -255,18 +260,18 @@ fn memory() -> [u8; sfi::search::MEMORY_SIZE] {
     [0u8; sfi::search::MEMORY_SIZE]
 }
 
-fn run_search() {
+fn run_search(rt: &impl Print) {
     let mut memory = memory();
-    search(&mut memory);
+    search(rt, &mut memory);
 }
 
-pub fn run() {
-    report::text(b"\nSFI tables");
+pub fn run(rt: &impl Print) {
+    report::text(rt, b"\nSFI tables");
     let table = laid(Kind::CPUS, 28, 1);
     let cpus = le::head(&table, 28);
-    run_checks(cpus);
-    run_revisions();
-    run_entries(cpus);
-    run_search();
-    run_choice(cpus);
+    run_checks(rt, cpus);
+    run_revisions(rt);
+    run_entries(rt, cpus);
+    run_search(rt);
+    run_choice(rt, cpus);
 }

@@ -101,56 +101,59 @@ fn check_table(region: &[u8], address: u64) -> [u64; 4] {
     }
 }
 
-fn say_body(body: Body, region: &[u8]) {
+fn say_body(rt: &impl Print, body: Body, region: &[u8]) {
     let said = [body.slot as u64, body.length as u64, body.at as u64];
-    report::pattern(b": slot %, % bytes at %:", &said);
-    report::bytes(le::head(le::tail(region, body.at), body.length));
+    report::pattern(rt, b": slot %, % bytes at %:", &said);
+    report::bytes(rt, le::head(le::tail(region, body.at), body.length));
 }
 
-fn find(what: &[u8], region: &[u8], name: &[u8]) {
-    report::start_line(what);
+fn find(rt: &impl Print, what: &[u8], region: &[u8], name: &[u8]) {
+    report::start_line(rt, what);
     match ubios::lookup::find(region, BASE, BASE, name) {
-        Found::Only(body) => say_body(body, region),
-        Found::Refused(reason) => report::refusal(reason.number()),
+        Found::Only(body) => say_body(rt, body, region),
+        Found::Refused(reason) => report::refusal(rt, reason.number()),
     }
 }
 
 // The least root has no slots.
-fn run_sums() {
+fn run_sums(rt: &impl Print) {
     let root = sealed(unsealed(b"root_table", 40, 0), 40);
     let sum = le::sum::sum32(b"\x01\x00\x00\x00\xFF");
     let checksum = le::word::u32_at(&root, CHECKSUM);
     report::pattern(
+        rt,
         b"\n  sum, 01 00 00 00 FF: #\n  the checksum of a root with Total 40, Version 1, all else 0: #",
         &[sum as u64, checksum as u64],
     );
     report::pattern(
+        rt,
         b"\n  that root: at %, % bytes used, % slots",
         &check_root(&root, BASE),
     );
 }
 
-fn run_tables(region: &[u8]) {
+fn run_tables(rt: &impl Print, region: &[u8]) {
     let root = check_root(region, BASE);
-    report::pattern(b"\n  root: at %, % bytes used, % slots", &root);
+    report::pattern(rt, b"\n  root: at %, % bytes used, % slots", &root);
     let table = check_table(region, SPEED_ADDRESS);
     report::pattern(
+        rt,
         b"\n  table in slot 1, a byte behind its used part is 1: at %, % bytes used",
         &table,
     );
 }
 
-fn run_names(region: &[u8]) {
-    find(b"find, sound_speed", region, b"sound_speed");
-    find(b"find, depth", region, b"depth");
-    find(b"find, bottom", region, b"bottom");
+fn run_names(rt: &impl Print, region: &[u8]) {
+    find(rt, b"find, sound_speed", region, b"sound_speed");
+    find(rt, b"find, depth", region, b"depth");
+    find(rt, b"find, bottom", region, b"bottom");
 }
 
 // Where `depth` is in the gap too.
-fn run_twice() {
+fn run_twice(rt: &impl Print) {
     let twice = region(0x70, 0x10);
-    find(b"find, depth, in two slots", &twice, b"depth");
-    find(b"find, no name", &twice, b"");
+    find(rt, b"find, depth, in two slots", &twice, b"depth");
+    find(rt, b"find, no name", &twice, b"");
 }
 
 fn root_refusal(root: [u8; 64], address: u64) -> u64 {
@@ -173,7 +176,7 @@ fn refusal_with(at: usize, byte: u8) -> u64 {
 }
 
 // A place that is no multiple of 8, one past the region, and a reserved byte that is in the sum.
-fn run_refusals() {
+fn run_refusals(rt: &impl Print) {
     let right = sealed(root(0, 0), 64);
     let said = [
         root_refusal(right, 4100),
@@ -185,19 +188,21 @@ fn run_refusals() {
         refusal_with(COUNT, 4),
     ];
     report::pattern(
+        rt,
         b"\n  root at 4100: refused with %\n  root at 8192: refused with %\n  root, Total 39: refused with %\n  root, Version 2: refused with %\n  root, one byte more in its sum: refused with %\n  root, another name: refused with %\n  root, Count 4: refused with %",
         &said,
     );
 }
 
-pub fn run() {
+pub fn run(rt: &impl Print) {
     report::text(
+        rt,
         b"\nUBIOS tables in a region of 256 bytes at 4096: a root with three slots, a gap, sound_speed and depth",
     );
-    run_sums();
+    run_sums(rt);
     let gap = region(0, 0);
-    run_tables(&gap);
-    run_names(&gap);
-    run_twice();
-    run_refusals();
+    run_tables(rt, &gap);
+    run_names(rt, &gap);
+    run_twice(rt);
+    run_refusals(rt);
 }

@@ -1,30 +1,30 @@
 // The frame log: a record written and read, and every refusal.
 use framelog::{Logged, Written};
 
-fn say_written(written: Written, slice: &[u8]) {
+fn say_written(rt: &impl Print, written: Written, slice: &[u8]) {
     match written {
         Written::Done => {
-            report::text(b": done:");
-            report::bytes(slice);
+            report::text(rt, b": done:");
+            report::bytes(rt, slice);
         }
-        Written::Refused(reason) => report::refusal(reason.number()),
+        Written::Refused(reason) => report::refusal(rt, reason.number()),
     }
 }
 
-fn write(what: &[u8], frame: &[u8], slice: &mut [u8]) {
-    report::start_line(what);
+fn write(rt: &impl Print, what: &[u8], frame: &[u8], slice: &mut [u8]) {
+    report::start_line(rt, what);
     let written = framelog::write(frame, slice);
-    say_written(written, slice);
+    say_written(rt, written, slice);
 }
 
-fn read(what: &[u8], slice: &[u8]) {
-    report::start_line(what);
+fn read(rt: &impl Print, what: &[u8], slice: &[u8]) {
+    report::start_line(rt, what);
     match framelog::read(slice) {
         Logged::Frame(n) => {
-            report::pattern(b": % bytes:", &[n as u64]);
-            report::bytes(framelog::frame(slice));
+            report::pattern(rt, b": % bytes:", &[n as u64]);
+            report::bytes(rt, framelog::frame(slice));
         }
-        Logged::Refused(reason) => report::refusal(reason.number()),
+        Logged::Refused(reason) => report::refusal(rt, reason.number()),
     }
 }
 
@@ -35,28 +35,28 @@ fn put(x: u8, at: usize, slice: &mut [u8]) {
 }
 
 // The record of a frame, with another byte at a place.
-fn read_changed(what: &[u8], frame: &[u8], x: u8, at: usize) {
+fn read_changed(rt: &impl Print, what: &[u8], frame: &[u8], x: u8, at: usize) {
     let mut slice = [0u8; framelog::RECORD_SIZE];
     framelog::write(frame, &mut slice);
     put(x, at, &mut slice);
-    read(what, &slice);
+    read(rt, what, &slice);
 }
 
-fn run_reads(five: &[u8], slice: &[u8]) {
-    read(b"read", slice);
-    read(b"read, 259 bytes", le::head(slice, 259));
-    read_changed(b"read, byte 2 is 1", five, 1, 2);
+fn run_reads(rt: &impl Print, five: &[u8], slice: &[u8]) {
+    read(rt, b"read", slice);
+    read(rt, b"read, 259 bytes", le::head(slice, 259));
+    read_changed(rt, b"read, byte 2 is 1", five, 1, 2);
     // The length 1 becomes 257.
-    read_changed(b"read, length 257", le::head(five, 1), 1, 1);
-    read_changed(b"read, the last byte is 1", five, 1, 259);
+    read_changed(rt, b"read, length 257", le::head(five, 1), 1, 1);
+    read_changed(rt, b"read, the last byte is 1", five, 1, 259);
 }
 
-pub(crate) fn run() {
-    report::text(b"\nThe frame log, records of 260 bytes");
+pub(crate) fn run(rt: &impl Print) {
+    report::text(rt, b"\nThe frame log, records of 260 bytes");
     let five = [1, 2, 3, 4, 5];
     let mut slice = [0u8; framelog::RECORD_SIZE];
-    write(b"write, 5 bytes", &five, &mut slice);
-    run_reads(&five, &slice);
-    write(b"write, a slice of 259", &five, &mut [0u8; 259]);
-    write(b"write, 257 bytes", &[0u8; 257], &mut slice);
+    write(rt, b"write, 5 bytes", &five, &mut slice);
+    run_reads(rt, &five, &slice);
+    write(rt, b"write, a slice of 259", &five, &mut [0u8; 259]);
+    write(rt, b"write, 257 bytes", &[0u8; 257], &mut slice);
 }

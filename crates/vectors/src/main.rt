@@ -4,12 +4,12 @@
 
 mod log;
 
-fn main() {
-    frame_vectors::run();
-    message_vectors::run();
-    notice_vectors::run();
-    table_vectors::run();
-    sfi_vectors::run();
-    log::run();
-    report::text(b"\n");
+fn main(rt: HostRuntime) {
+    frame_vectors::run(&rt);
+    message_vectors::run(&rt);
+    notice_vectors::run(&rt);
+    table_vectors::run(&rt);
+    sfi_vectors::run(&rt);
+    log::run(&rt);
+    report::text(&rt, b"\n");
 }
