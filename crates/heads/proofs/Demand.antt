@@ -214,7 +214,7 @@ module _ (us : ℕ) (m : Message) (s : Sent) (ss : List Sent) (framed : Framed u
   unfolding calls_from expected_from all_arrive
   message_but arrives st b replies r among =
       let among' : Beside us st b (s.before ++ (first_frame ∷ (later ++ rest))) replies = rw (arrives, append_assoc) at among in
-      rw (arrives, append_assoc (nothing s.before), length-append s.before, ← drop-drop (suc (length later)) (length s.before) replies)
+      rw (ap up arrives, arrives, append_assoc (nothing s.before), length-append s.before, ← drop-drop (suc (length later)) (length s.before) replies)
       (past_put_ins us (first_frame ∷ (later ++ rest)) _ first_on s.before framed.put_in.0 st b replies r among')
 
 -- the same, of all its frames
