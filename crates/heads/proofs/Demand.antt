@@ -214,8 +214,12 @@ module _ (us : ℕ) (m : Message) (s : Sent) (ss : List Sent) (framed : Framed u
   unfolding calls_from expected_from all_arrive
   message_but arrives st b replies r among =
       let among' : Beside us st b (s.before ++ (first_frame ∷ (later ++ rest))) replies = rw (arrives, append_assoc) at among in
-      rw (ap up arrives, arrives, append_assoc (nothing s.before), length-append s.before, ← drop-drop (suc (length later)) (length s.before) replies)
-      (past_put_ins us (first_frame ∷ (later ++ rest)) _ first_on s.before framed.put_in.0 st b replies r among')
+      let given : cond (turned_away (s ∷ ss) replies) none (cond (all_arrive (s ∷ ss)) (some (as_sent m)) none) ≡ gives_but (drop (length s.before) replies) =
+      ap (λ (a : Bool). cond (turned_away (s ∷ ss) replies) none (up a)) arrives in
+      let whole : ups replies ≡ expected_from (gives_but (drop (length s.before) replies)) (s ∷ ss) ++ E (drop (length (calls_from e total 0 (s ∷ ss))) replies) =
+      rw (arrives, append_assoc (nothing s.before), length-append s.before, ← drop-drop (suc (length later)) (length s.before) replies)
+      (past_put_ins us (first_frame ∷ (later ++ rest)) _ first_on s.before framed.put_in.0 st b replies r among') in
+      whole ∙ ap (λ (u : Option HandedUp). expected_from u (s ∷ ss) ++ E (drop (length (calls_from e total 0 (s ∷ ss))) replies)) (sym given)
 
 -- the same, of all its frames
 whole_message : (us : ℕ) (m : Message) (frames : List Sent) → Legal us place_size (record { message = m; frames = frames })
