@@ -11,7 +11,6 @@ use Rattle.frame.specs.Layout.{message_max}
 use Rattle.frame.specs.Reading.{parsed, data_of}
 use Rattle.frame.specs.declared.Header.{Header}
 use Rattle.frame.specs.declared.read.Parsed.{Parsed}
-use Rattle.frame.specs.declared.read.Parsed.TheVariants as Parsed
 use Rattle.frame.specs.declared.read.Reason.{Reason as ReadReason}
 use Rattle.reassembly.specs.Step as One
 use Rattle.reassembly.specs.Step.{lacks_data_def, is_first}

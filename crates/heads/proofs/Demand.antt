@@ -55,7 +55,7 @@ data Begins (us : ℕ) (st : State) (b f : List ℕ) (fs : List (List ℕ)) (rep
 
 begins : (us : ℕ) (st : State) (b f : List ℕ) (fs : List (List ℕ)) (replies : List Reply) → Beside us st b (f ∷ fs) replies → Begins us st b f fs replies
 begins us st b f fs replies (Beside.stepped _ _ _ _ rs next) = steps rs refl next
-begins us st b f fs replies (Beside.turned_away_lem _ _ _ rs h q first next) = waits rs h q first refl refl next
+begins us st b f fs replies (Beside.got_fifteen _ _ _ rs h q first next) = waits rs h q first refl refl next
 
 -- a frame that has no Index 0, or is not read
 abbrev Steady : ℕ → List ℕ → Type 0

@@ -1,5 +1,5 @@
 -- The step of the crate `reassembly` in the bytes of place k.
-use Rattle.std.proofs.Common.{◌≡◌, ◌≤◌, ℕ, ◌+◌, ◌-◌, ◌*◌, List, ◌++◌, length, take, drop, set, sym, ap, ◌∙◌, arith}
+use Rattle.std.proofs.Common.{◌≡◌, ◌≤◌, ℕ, ◌+◌, ◌-◌, ◌*◌, List, ◌++◌, length, take, drop, set, ap, ◌∙◌, arith}
 use borrow.Rule.Slice.PartMut.{mid_of, Post-is}
 use Rattle.frame.specs.declared.Header.{Header}
 use Rattle.frame.specs.declared.read.Parsed.TheVariants as Parsed
@@ -45,6 +45,6 @@ returns c =
       places_after = c.put.ensures.places_after ∙ ap (λ (a : Answer). relaid k a.state numbers) is;
       places_after_2 = c.put.ensures.places_after_2 ∙ ap (λ (a : Answer). set (places_in numbers) k a.state) is;
       buf_after =
-        ap (λ (l : List ℕ). take (place_size * k) b ++ (c.receive-answer.new.buf ++ l)) (Post-is (place_size * k) (place_size * k + place_size) b (omega arith))
-        ∙ ap (λ (l : List ℕ). with_part k l b) bytes;
+          ap (λ (l : List ℕ). take (place_size * k) b ++ (c.receive-answer.new.buf ++ l)) (Post-is (place_size * k) (place_size * k + place_size) b (omega arith))
+          ∙ ap (λ (l : List ℕ). with_part k l b) bytes;
     }

@@ -1,4 +1,4 @@
-use Rattle.std.proofs.Common.{◌≡◌, ◌≤◌, ℕ, List, length, take, replicate, sym, ap, ◌∙◌, arith, take_all}
+use Rattle.std.proofs.Common.{◌≡◌, ℕ, List, length, take, replicate, sym, ap, ◌∙◌, arith, take_all}
 use Rattle.heads.specs.Places.{place_count, all_fresh}
 use Rattle.heads.specs.Numbers.{number_count, places_in, numbers_of}
 use Rattle.heads.proofs.Rows.{zeros_on, fresh_numbers, fresh_places}

@@ -3,7 +3,7 @@ use Rattle.std.proofs.Common.{◌≡◌, ℕ, ◌+◌, ◌*◌, List, ◌++◌, 
 use borrow.Rule.Slice.PartMut.{Post-is}
 use Rattle.heads.specs.Places.{place_count}
 use Rattle.heads.specs.Numbers.{row_size, places_in}
-use Rattle.heads.proofs.Rows.{length_row, laid, places_laid}
+use Rattle.heads.proofs.Rows.{length_row, places_laid}
 use Rattle.heads.proofs.numbers.put.Goals as goal
 
 pub returns-clause-places_after_2 : goal.returns-clause-places_after_2
