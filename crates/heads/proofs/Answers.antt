@@ -129,12 +129,6 @@ module _ (h : Header) where
   pub seat_later : (ps : List State) → is_first h ≡ false → (seat_of h ps ≡ place_of h.words.sender ps) × (left_for h ps ≡ ps)
   seat_later ps e = rw e (refl, refl)
 
-  pub away_first : (size : ℕ) → is_first h ≡ true → turned_away h size ≡ crowded size h.words.total
-  away_first size e = rw e
-
-  pub away_later : (size : ℕ) → is_first h ≡ false → turned_away h size ≡ Step NothingOpen
-  away_later size e = rw e
-
   -- without a message there are as many places, and each is consistent as before
   pub left_long : (ps : List State) → length (left_for h ps) ≡ length ps
   left_long ps = either (λ (qs : List State). length qs ≡ length ps) (is_first h) (length_without h.words.sender ps) refl

@@ -6,7 +6,7 @@ use mathlib.Core.Path.{◌≡◌, refl, sym, ap, ◌∙◌}
 use mathlib.Core.List.{List, [], ◌∷◌, ◌++◌, append_assoc}
 use native.Mathlib.Nat.{suc_inj}
 use native.Mathlib.Omega.{arith}
-use borrow.Author.Tests.{le-leb, lt-leb, leb-true, eq-eqb, ne_eqb, eqb-true, eqb-false, ltb-true, ltb-false}
+use borrow.Author.Tests.{le-leb, leb-true, eq-eqb, ne_eqb, eqb-true, eqb-false, ltb-true, ltb-false}
 use lib.Dec.{eqb, leb, ltb}
 use lib.ListN.{length, get_or, take, drop, set, replicate, length-append, length-take, length-drop, length-set, take-append-drop, get_or-eq_default}
 use lib.Seq.{take-append-le, drop-append-le, take_at, drop_at, take-take, drop-drop, take-add, set_out, get_or-set_same, get_or-set_other}
@@ -335,21 +335,6 @@ legal_known ps room e =
 pub known_legal : (ps : List State) (room : ℕ) → Known ps room → legal ps room ≡ true
 unfolding legal
 known_legal ps room known = rw (le-leb buffer_min room known.room_enough, known.places_consistent, known.all_distinct)
-
--- the tests one by one, as they are made
-module _ (ps : List State) (room : ℕ) where
-  pub short_buffer : room < buffer_min → legal ps room ≡ false
-  unfolding legal
-  short_buffer h = rw (lt-leb buffer_min room h)
-
-  module _ (enough : buffer_min ≤ room) where
-    pub one_inconsistent : all_consistent ps ≡ false → legal ps room ≡ false
-    unfolding legal
-    one_inconsistent e = rw (le-leb buffer_min room enough, e)
-
-    pub by_senders : all_consistent ps ≡ true → legal ps room ≡ distinct ps
-    unfolding legal
-    by_senders e = rw (le-leb buffer_min room enough, e)
 
 -- places that are all fresh are legal
 pub fresh_consistent : (n : ℕ) → all_consistent (replicate n Fresh) ≡ true

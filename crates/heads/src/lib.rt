@@ -91,6 +91,7 @@ fn take_in(
 }
 
 // Why a frame with Index 0 is refused where no place is free.
+#[tactic(auto, unfolding(crate::specs::Step::crowded))]
 fn crowd(size: usize, total: u32) -> Reason
     ensures { result ≡ crowded size total }
 {
