@@ -15,7 +15,6 @@ use Rattle.frame.specs.Reading.{parsed, data_of}
 use Rattle.frame.specs.declared.Header.{Header}
 use Rattle.frame.specs.declared.Words.{Words}
 use Rattle.frame.specs.declared.read.Parsed.{Parsed}
-use Rattle.frame.specs.declared.read.Parsed.TheVariants as Parsed
 use Rattle.reassembly.specs.Run as OneRun
 use Rattle.reassembly.specs.Statements.{filled_of, Agree as OneAgree}
 use Rattle.reassembly.specs.Step as One
@@ -147,7 +146,7 @@ module _ (us : ℕ) (ps : List State) (b c f : List ℕ) (len : length ps ≡ pl
       go : (t : Bool) → ltb k (length ps) ≡ t
           → Alike (cond t (seated k (open_of_def s ps) h (data_of f) ps b) (refused (Step NothingOpen) ps b)) (cond t (seated k (open_of_def s ps) h (data_of f) ps c) (refused (Step NothingOpen) ps c))
       go true e =
-          seated_alike ok h read k (ltb-true k (length ps) e) (open_of_def s ps) (each_consistent ps (legal_known ps (length b) ok).all_consistent_lem k) (agree.filled k) ps refl agree
+          seated_alike ok h read k (ltb-true k (length ps) e) (open_of_def s ps) (each_consistent ps (legal_known ps (length b) ok).places_consistent k) (agree.filled k) ps refl agree
       go false e = refused_alike (Step NothingOpen)
 
   routed_alike : legal ps (length b) ≡ true → (r : Parsed) → parsed us f ≡ r → Alike (routed r (data_of f) ps b) (routed r (data_of f) ps c)

@@ -18,7 +18,6 @@ use Rattle.frame.specs.Framing.{All}
 use Rattle.frame.specs.Reading.{parsed, data_of}
 use Rattle.frame.specs.declared.Header.{Header}
 use Rattle.frame.specs.declared.read.Parsed.{Parsed}
-use Rattle.frame.specs.declared.read.Parsed.TheVariants as Parsed
 use Rattle.reassembly.specs.Run as One
 use Rattle.reassembly.specs.Run.{HandedUp}
 use Rattle.reassembly.specs.Step as OneStep
@@ -102,7 +101,7 @@ module _ (us s : ℕ) (ps : List State) (buffer : List ℕ) (st : State) (own f 
   -- what is open in the one place is consistent
   open_consistent : consistent st (length own) ≡ true
   open_consistent =
-      rw (← follows.open_there, follows.own_long) (each_consistent ps (legal_known ps (length buffer) follows.is_legal).all_consistent_lem (place_of s ps))
+      rw (← follows.open_there, follows.own_long) (each_consistent ps (legal_known ps (length buffer) follows.is_legal).places_consistent (place_of s ps))
 
   -- the places stay as many, and legal
   stays : (length (step_of us ps buffer f).places ≡ place_count) × (legal (step_of us ps buffer f).places (length (step_of us ps buffer f).buffer) ≡ true)
@@ -214,11 +213,11 @@ module _ (us s : ℕ) (ps : List State) (buffer : List ℕ) (st : State) (own f 
   one_step not-others = by (call us ps buffer f)
     where
       -- if it is read, it is of s; if it has no place, s has nothing open
-      is_own_lem : (h : Header) → parsed us f ≡ Parsed.Header h → h.words.sender ≡ s
-      is_own_lem h read = eqb-true h.words.sender s (not-false (eqb h.words.sender s) (rw read at not-others))
+      own_sender : (h : Header) → parsed us f ≡ Parsed.Header h → h.words.sender ≡ s
+      own_sender h read = eqb-true h.words.sender s (not-false (eqb h.words.sender s) (rw read at not-others))
 
       nothing : (h : Header) → parsed us f ≡ Parsed.Header h → length ps ≤ place_of h.words.sender ps → st ≡ Fresh
-      nothing h read none = sym follows.open_there ∙ (rw (is_own_lem h read) at (no_place_fresh h.words.sender ps none))
+      nothing h read none = sym follows.open_there ∙ (rw (own_sender h read) at (no_place_fresh h.words.sender ps none))
 
       by : Call us ps buffer f → Next us s ps buffer st own f
       by (bad illegal is) = never (sym follows.is_legal ∙ illegal)
@@ -229,7 +228,7 @@ module _ (us s : ℕ) (ps : List State) (buffer : List ℕ) (st : State) (own f 
           let is-fresh = nothing h read none in
           same_refusal NothingOpen Fresh (sym is-fresh) is
           (good_state (parsed us f) piece st own open_consistent ∙ index_more (parsed us f) piece st own h read later ∙ none_open h piece st own is-fresh)
-      by (sits ok h read k state qs seat is) = seated_alike h read (is_own_lem h read) k state qs (rw (is_own_lem h read) at seat) is
+      by (sits ok h read k state qs seat is) = seated_alike h read (own_sender h read) k state qs (rw (own_sender h read) at seat) is
 
   -- a frame that is not the sender's leaves all as it is
   other_step : is_own us s f ≡ false → Follows s (step_of us ps buffer f).places (step_of us ps buffer f).buffer st own
@@ -274,7 +273,7 @@ plain : (us : ℕ) (st : State) (own : List ℕ) (frames : List (List ℕ)) (rep
 unfolding One.answers
 plain us st own frames replies (Beside.ended _ _) has_place = refl
 plain us st own frames replies (Beside.stepped _ _ f fs rs next) has_place = ap (λ (l : List Reply). reply_of_one (OneStep.step_of us st own f) ∷ l) (plain us _ _ fs rs next has_place.1)
-plain us st own frames replies (Beside.turned_away_lem _ f fs rs h q first next) has_place = absurd (has_place.0 refl)
+plain us st own frames replies (Beside.got_fifteen _ f fs rs h q first next) has_place = absurd (has_place.0 refl)
 
 -- frames that are kept are of the kind that is kept
 kept_are : (keep : List ℕ → Bool) (P : List ℕ → Type 0) → ((f : List ℕ) → keep f ≡ true → P f) → (frames : List (List ℕ)) → All P (kept keep frames)
@@ -330,7 +329,7 @@ module _ (us s : ℕ) where
             by (together reply follows') = rw reply (Beside.stepped st own f _ _ (others _ _ _ _ follows'))
             by (away full is-fresh) =
                 rw ((fifteen_exactly us ps buffer f).0 full, is-fresh)
-                (Beside.turned_away_lem own f _ _ full.header full.reads (eq-eqb full.header.index 0 full.first) (others ps buffer Fresh own (rw (← is-fresh) follows)))
+                (Beside.got_fifteen own f _ _ full.header full.reads (eq-eqb full.header.index 0 full.first) (others ps buffer Fresh own (rw (← is-fresh) follows)))
         go false e others = others _ _ st own (other_step us s ps buffer st own f follows (not_own f e))
 
   -- a run of no other sender's frames, where no other has anything open: 15 is not given

@@ -11,7 +11,6 @@ use Rattle.frame.specs.Layout.{message_max}
 use Rattle.frame.specs.Reading.{parsed, data_of}
 use Rattle.frame.specs.declared.Header.{Header}
 use Rattle.frame.specs.declared.read.Parsed.{Parsed}
-use Rattle.frame.specs.declared.read.Parsed.TheVariants as Parsed
 use Rattle.frame.specs.declared.read.Reason.{Reason as ReadReason}
 use Rattle.reassembly.specs.Step as One
 use Rattle.reassembly.specs.Step.{lacks_data_def, is_first}
@@ -129,12 +128,6 @@ module _ (h : Header) where
 
   pub seat_later : (ps : List State) → is_first h ≡ false → (seat_of h ps ≡ place_of h.words.sender ps) × (left_for h ps ≡ ps)
   seat_later ps e = rw e (refl, refl)
-
-  pub away_first : (size : ℕ) → is_first h ≡ true → turned_away h size ≡ crowded size h.words.total
-  away_first size e = rw e
-
-  pub away_later : (size : ℕ) → is_first h ≡ false → turned_away h size ≡ Step NothingOpen
-  away_later size e = rw e
 
   -- without a message there are as many places, and each is consistent as before
   pub left_long : (ps : List State) → length (left_for h ps) ≡ length ps

@@ -14,7 +14,6 @@ use Rattle.frame.specs.Reading.{parsed, data_of}
 use Rattle.frame.specs.declared.Header.{Header}
 use Rattle.frame.specs.declared.Words.{Words}
 use Rattle.frame.specs.declared.read.Parsed.{Parsed}
-use Rattle.frame.specs.declared.read.Parsed.TheVariants as Parsed
 use Rattle.frame.specs.declared.read.Reason.{Reason as ReadReason}
 use Rattle.reassembly.specs.Step as One
 use Rattle.reassembly.specs.Step.{consistent, same_words_def, lacks_data_def, exceeds, too_long, is_next, is_first, accept, begin, proceed}
@@ -45,7 +44,7 @@ pub record Seat (s : ℕ) (first : Bool) (ps : List State) (k : ℕ) (state : St
   pub state_of : Of s state
   pub state_ok : consistent state place_size ≡ true
   -- what stands in that place is the sender's or nothing, and the sender has no other
-  pub place_of_lem : Of s (get_or qs k Fresh)
+  pub of_sender : Of s (get_or qs k Fresh)
   pub only : OnlyAt s k qs
   -- these are the places but for what the sender has open; without what stands there they have nothing of it
   pub others_as : (t : ℕ) → (s ≡ t → ⊥) → (place_of t qs ≡ place_of t ps) × (open_of_def t qs ≡ open_of_def t ps)
@@ -67,7 +66,7 @@ module _ (s : ℕ) (ps : List State) (ok : all_consistent ps ≡ true) (differ :
         as_many = length_without s ps;
         state_of = tt;
         state_ok = fresh place_size;
-        place_of_lem = rw free tt;
+        of_sender = rw free tt;
         only = λ j own. absurd (dropped ps differ s j own);
         others_as = λ t other. (others_place s ps (place_of s ps) Fresh (open_is_of s ps) tt t other, others_open s ps (place_of s ps) Fresh (open_is_of s ps) tt t other);
         cleared_is = ap (λ (x : State). set qs k x) (sym free) ∙ set-get_or qs k Fresh;
@@ -85,7 +84,7 @@ module _ (s : ℕ) (ps : List State) (ok : all_consistent ps ≡ true) (differ :
         as_many = refl;
         state_of = open_is_of s ps;
         state_ok = each_consistent ps ok (place_of s ps);
-        place_of_lem = open_is_of s ps;
+        of_sender = open_is_of s ps;
         only = only_place ps differ s;
         others_as = λ t other. (refl, refl);
         cleared_is = refl;
@@ -114,7 +113,7 @@ call us ps b f = by_places (legal ps (length b)) refl
         let s = h.words.sender in
         let k = lowest is_free_def (without s ps) in
         let l = ltb-true k (length ps) e in
-        sits ok h read k Fresh (without s ps) (rw first (begins_at s ps known.all_consistent_lem known.all_distinct l))
+        sits ok h read k Fresh (without s ps) (rw first (begins_at s ps known.places_consistent known.all_distinct l))
         (Law.good_places us ps b f ok ∙ Law.index_zero (parsed us f) (data_of f) ps b h read first ∙ Law.takes_place h (data_of f) ps b k refl l
         ∙ Law.in_place us k Fresh h f (without s ps) b read)
     by_free ok h read first false e =
@@ -129,7 +128,7 @@ call us ps b f = by_places (legal ps (length b)) refl
         let s = h.words.sender in
         let k = place_of s ps in
         let l = ltb-true k (length ps) e in
-        sits ok h read k (open_of_def s ps) ps (rw later (goes_on_at s ps known.all_consistent_lem known.all_distinct l))
+        sits ok h read k (open_of_def s ps) ps (rw later (goes_on_at s ps known.places_consistent known.all_distinct l))
         (Law.good_places us ps b f ok ∙ Law.index_more (parsed us f) (data_of f) ps b h read later ∙ Law.own_place h (data_of f) ps b k refl l
         ∙ Law.in_place us k (open_of_def s ps) h f ps b read)
     by_own ok h read later false e =

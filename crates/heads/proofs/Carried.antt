@@ -18,7 +18,6 @@ use Rattle.frame.specs.Layout.{header_size, frame_max, type_version, header_of}
 use Rattle.frame.specs.Reading.{parsed}
 use Rattle.frame.specs.declared.Words.{Words}
 use Rattle.frame.specs.declared.read.Parsed.{Parsed}
-use Rattle.frame.specs.declared.read.Parsed.TheVariants as Parsed
 use Rattle.reassembly.specs.Step as One
 use Rattle.reassembly.specs.Step.{is_first}
 use Rattle.reassembly.specs.declared.Progress.{Progress}
@@ -68,9 +67,9 @@ all_set P [] k x hold here = tt
 all_set P (p ∷ ps) zero x hold here = (here, hold.1)
 all_set P (p ∷ ps) (suc k) x hold here = (hold.0, all_set P ps k x hold.1 here)
 
-pub all_fresh_lem : (P : State → Type 0) → P Fresh → (n : ℕ) → All P (replicate n Fresh)
-all_fresh_lem P none zero = tt
-all_fresh_lem P none (suc n) = (none, all_fresh_lem P none n)
+pub holds_of_fresh : (P : State → Type 0) → P Fresh → (n : ℕ) → All P (replicate n Fresh)
+holds_of_fresh P none zero = tt
+holds_of_fresh P none (suc n) = (none, holds_of_fresh P none n)
 
 module _ (P : State → Type 0) (is : ByWords P) (us : ℕ) (f : List ℕ) (read : ReadAs P (parsed us f)) where
   from_source : (state : State) (w : Words) (i filled : ℕ) → Source us f state w i filled → P state → P (opened w)
@@ -91,7 +90,7 @@ module _ (P : State → Type 0) (is : ByWords P) (us : ℕ) (f : List ℕ) (read
   carries ps b hold = by (call us ps b f)
     where
       by : Call us ps b f → DeliveredAs P (step_of us ps b f).verdict × All P (step_of us ps b f).places
-      by (bad illegal e) = rw e (tt, all_fresh_lem P is.fresh_holds (length ps))
+      by (bad illegal e) = rw e (tt, holds_of_fresh P is.fresh_holds (length ps))
       by (unread ok reason r e) = rw e (tt, hold)
       by (crowds ok h r first none e) = rw e (tt, hold)
       by (misses ok h r later none e) = rw e (tt, hold)

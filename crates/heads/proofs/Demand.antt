@@ -55,7 +55,7 @@ data Begins (us : ℕ) (st : State) (b f : List ℕ) (fs : List (List ℕ)) (rep
 
 begins : (us : ℕ) (st : State) (b f : List ℕ) (fs : List (List ℕ)) (replies : List Reply) → Beside us st b (f ∷ fs) replies → Begins us st b f fs replies
 begins us st b f fs replies (Beside.stepped _ _ _ _ rs next) = steps rs refl next
-begins us st b f fs replies (Beside.turned_away_lem _ _ _ rs h q first next) = waits rs h q first refl refl next
+begins us st b f fs replies (Beside.got_fifteen _ _ _ rs h q first next) = waits rs h q first refl refl next
 
 -- a frame that has no Index 0, or is not read
 abbrev Steady : ℕ → List ℕ → Type 0
@@ -214,8 +214,12 @@ module _ (us : ℕ) (m : Message) (s : Sent) (ss : List Sent) (framed : Framed u
   unfolding calls_from expected_from all_arrive
   message_but arrives st b replies r among =
       let among' : Beside us st b (s.before ++ (first_frame ∷ (later ++ rest))) replies = rw (arrives, append_assoc) at among in
+      let given : cond (turned_away (s ∷ ss) replies) none (cond (all_arrive (s ∷ ss)) (some (as_sent m)) none) ≡ gives_but (drop (length s.before) replies) =
+      ap (λ (a : Bool). cond (turned_away (s ∷ ss) replies) none (up a)) arrives in
+      let whole : ups replies ≡ expected_from (gives_but (drop (length s.before) replies)) (s ∷ ss) ++ E (drop (length (calls_from e total 0 (s ∷ ss))) replies) =
       rw (arrives, append_assoc (nothing s.before), length-append s.before, ← drop-drop (suc (length later)) (length s.before) replies)
-      (past_put_ins us (first_frame ∷ (later ++ rest)) _ first_on s.before framed.put_in.0 st b replies r among')
+      (past_put_ins us (first_frame ∷ (later ++ rest)) _ first_on s.before framed.put_in.0 st b replies r among') in
+      whole ∙ ap (λ (u : Option HandedUp). expected_from u (s ∷ ss) ++ E (drop (length (calls_from e total 0 (s ∷ ss))) replies)) (sym given)
 
 -- the same, of all its frames
 whole_message : (us : ℕ) (m : Message) (frames : List Sent) → Legal us place_size (record { message = m; frames = frames })

@@ -28,9 +28,9 @@ use Rattle.heads.proofs.Calls.{Call, bad, unread, crowds, misses, sits, call, pl
 pub legal_means : LegalMeans
 legal_means ps room = (
   (λ ok. let known = legal_known ps room ok in
-      record { room_enough = known.room_enough; each = each_consistent ps known.all_consistent_lem; one_each = one_place ps known.all_distinct }),
+      record { room_enough = known.room_enough; each = each_consistent ps known.places_consistent; one_each = one_place ps known.all_distinct }),
   (λ orderly. known_legal ps room
-      (record { room_enough = orderly.room_enough; all_consistent_lem = consistent_each ps orderly.each; all_distinct = one_each ps orderly.one_each })),
+      (record { room_enough = orderly.room_enough; places_consistent = consistent_each ps orderly.each; all_distinct = one_each ps orderly.one_each })),
 )
 
 pub stays_legal : StaysLegal
@@ -53,7 +53,7 @@ stays_legal us ps b f len = by (call us ps b f)
         let of = stays_of us (part k b) f h s read refl state seat.state_of in
         let differ = distinct_set qs k after seat.places_apart (λ t j a own. seat.only j (ap (λ (x : ℕ). is_of_def x (get_or qs j Fresh)) (of_same s t after of a) ∙ own)) in
         rw is (
-          (λ enough. known_legal (set qs k after) (length b) (record { room_enough = enough; all_consistent_lem = consistent_set qs k after seat.places_ok keeps.1; all_distinct = differ })),
+          (λ enough. known_legal (set qs k after) (length b) (record { room_enough = enough; places_consistent = consistent_set qs k after seat.places_ok keeps.1; all_distinct = differ })),
           length-set qs k after ∙ seat.as_many ∙ len,
           length_with_part k b fits st.buffer keeps.2,
         )

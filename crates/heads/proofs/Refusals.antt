@@ -155,7 +155,7 @@ fifteen_exactly us ps b f = (given, (λ q. by q (call us ps b f)))
 -- whoever has its message where a frame sits sent that frame
 whose_place : {t : ℕ} {first : Bool} {ps : List State} {k : ℕ} {state : State} {qs : List State} → Seat t first ps k state qs → (s : ℕ) → place_of s qs ≡ k → t ≡ s
 whose_place {t} {k = k} {qs = qs} seat s here =
-    of_same t s (get_or qs k Fresh) seat.place_of_lem (rw (← here) (place_open s qs (rw (here, seat.as_many) seat.inside)))
+    of_same t s (get_or qs k Fresh) seat.of_sender (rw (← here) (place_open s qs (rw (here, seat.as_many) seat.inside)))
 
 pub others_untouched : OthersUntouched
 others_untouched us ps b f len legal-now s not_own = by (call us ps b f)
@@ -179,8 +179,8 @@ others_untouched us ps b f len legal-now s not_own = by (call us ps b f)
         let as-were = seat.others_as s other in
         let elsewhere : place_of s ps ≡ k → ⊥ = λ e. other (whose_place seat s (as-were.0 ∙ e)) in
         rw is (
-          others_place t qs k after seat.place_of_lem of s other ∙ as-were.0,
-          others_open t qs k after seat.place_of_lem of s other ∙ as-were.1,
+          others_place t qs k after seat.of_sender of s other ∙ as-were.0,
+          others_open t qs k after seat.of_sender of s other ∙ as-were.1,
           part_other k b fits st.buffer keeps.2 (place_of s ps) elsewhere,
         )
 

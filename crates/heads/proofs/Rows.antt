@@ -1,7 +1,7 @@
 -- The laws of places kept as numbers: which state eight numbers are, what stands at a place, and what a state kept at a place makes of all numbers.
 -- Assumes nothing.
 use Prim.Native.Nat.{ℕ, zero, suc, ◌+◌, ◌*◌, ◌≤◌, ◌<◌}
-use mathlib.Core.Bool.{Bool, true, false, not, cond}
+use mathlib.Core.Bool.{Bool, true, false, cond}
 use mathlib.Core.Path.{◌≡◌, refl, sym, ap, ap₂, ◌∙◌}
 use mathlib.Core.List.{List, [], ◌∷◌, ◌++◌, map, append_assoc}
 use borrow.Author.Tests.{eq-eqb, ne_eqb, eqb-true, eqb-false, lt-ltb, le-ltb, ltb-true, ltb-false}
@@ -297,5 +297,5 @@ pub as_in : (st law : Stepped) (verdict : Verdict) (numbers buffer : List ℕ)
     → numbers ≡ numbers_of law.places
     → places_in numbers ≡ law.places
     → buffer ≡ law.buffer
-    → (verdict ≡ st.verdict) × ((numbers ≡ numbers_of st.places) × ((places_in numbers ≡ st.places) × (buffer ≡ st.buffer)))
-as_in st law verdict numbers buffer e v n p b = rw e (v, (n, (p, b)))
+    → (verdict ≡ st.verdict) × (numbers ≡ numbers_of st.places) × (places_in numbers ≡ st.places) × (buffer ≡ st.buffer)
+as_in st law verdict numbers buffer e v n p b = rw e (v, n, p, b)

@@ -6,7 +6,7 @@ use mathlib.Core.Path.{◌≡◌, refl, sym, ap, ◌∙◌}
 use mathlib.Core.List.{List, [], ◌∷◌, ◌++◌, append_assoc}
 use native.Mathlib.Nat.{suc_inj}
 use native.Mathlib.Omega.{arith}
-use borrow.Author.Tests.{le-leb, lt-leb, leb-true, eq-eqb, ne_eqb, eqb-true, eqb-false, ltb-true, ltb-false}
+use borrow.Author.Tests.{le-leb, leb-true, eq-eqb, ne_eqb, eqb-true, eqb-false, ltb-true, ltb-false}
 use lib.Dec.{eqb, leb, ltb}
 use lib.ListN.{length, get_or, take, drop, set, replicate, length-append, length-take, length-drop, length-set, take-append-drop, get_or-eq_default}
 use lib.Seq.{take-append-le, drop-append-le, take_at, drop_at, take-take, drop-drop, take-add, set_out, get_or-set_same, get_or-set_other}
@@ -322,7 +322,7 @@ dropped ps e s k own = go (at_set ps (place_of s ps) Fresh k)
 -- the three parts of the test
 pub record Known (ps : List State) (room : ℕ) : Type 0 where
   pub room_enough : buffer_min ≤ room
-  pub all_consistent_lem : all_consistent ps ≡ true
+  pub places_consistent : all_consistent ps ≡ true
   pub all_distinct : distinct ps ≡ true
 
 pub legal_known : (ps : List State) (room : ℕ) → legal ps room ≡ true → Known ps room
@@ -330,26 +330,11 @@ unfolding legal
 legal_known ps room e =
     let a = both (leb buffer_min room) (all_consistent ps && distinct ps) e in
     let b = both (all_consistent ps) (distinct ps) a.1 in
-    record { room_enough = leb-true buffer_min room a.0; all_consistent_lem = b.0; all_distinct = b.1 }
+    record { room_enough = leb-true buffer_min room a.0; places_consistent = b.0; all_distinct = b.1 }
 
 pub known_legal : (ps : List State) (room : ℕ) → Known ps room → legal ps room ≡ true
 unfolding legal
-known_legal ps room known = rw (le-leb buffer_min room known.room_enough, known.all_consistent_lem, known.all_distinct)
-
--- the tests one by one, as they are made
-module _ (ps : List State) (room : ℕ) where
-  pub short_buffer : room < buffer_min → legal ps room ≡ false
-  unfolding legal
-  short_buffer h = rw (lt-leb buffer_min room h)
-
-  module _ (enough : buffer_min ≤ room) where
-    pub one_inconsistent : all_consistent ps ≡ false → legal ps room ≡ false
-    unfolding legal
-    one_inconsistent e = rw (le-leb buffer_min room enough, e)
-
-    pub by_senders : all_consistent ps ≡ true → legal ps room ≡ distinct ps
-    unfolding legal
-    by_senders e = rw (le-leb buffer_min room enough, e)
+known_legal ps room known = rw (le-leb buffer_min room known.room_enough, known.places_consistent, known.all_distinct)
 
 -- places that are all fresh are legal
 pub fresh_consistent : (n : ℕ) → all_consistent (replicate n Fresh) ≡ true
@@ -363,7 +348,7 @@ fresh_distinct zero = refl
 fresh_distinct (suc n) = fresh_distinct n
 
 pub fresh_legal : (n room : ℕ) → buffer_min ≤ room → legal (replicate n Fresh) room ≡ true
-fresh_legal n room h = known_legal (replicate n Fresh) room (record { room_enough = h; all_consistent_lem = fresh_consistent n; all_distinct = fresh_distinct n })
+fresh_legal n room h = known_legal (replicate n Fresh) room (record { room_enough = h; places_consistent = fresh_consistent n; all_distinct = fresh_distinct n })
 
 -- ---- the bytes of a place
 

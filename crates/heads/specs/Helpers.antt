@@ -3,7 +3,6 @@
 use Rattle.std.specs.Prelude.{ℕ, ◌*◌, ◌+◌, true, cond, ◌≡◌, List, ◌++◌, length, take, drop}
 use Rattle.frame.specs.declared.Header.{Header}
 use Rattle.frame.specs.declared.read.Parsed.{Parsed}
-use Rattle.frame.specs.declared.read.Parsed.TheVariants as Parsed
 use Rattle.reassembly.specs.Step.{consistent, is_first, received}
 use Rattle.reassembly.specs.declared.State.{State}
 use Rattle.reassembly.specs.declared.Reason.TheVariants.{Unread, NothingOpen}

@@ -4,7 +4,6 @@ use Rattle.std.specs.Prelude.{ℕ, ◌*◌, Bool, false, cond, not, List, [], �
 use Rattle.std.proofs.Math.Option.{Option, none, some}
 use Rattle.frame.specs.Reading.{parsed}
 use Rattle.frame.specs.declared.read.Parsed.{Parsed}
-use Rattle.frame.specs.declared.read.Parsed.TheVariants as Parsed
 use Rattle.reassembly.specs.Run as One
 use Rattle.reassembly.specs.Run.{HandedUp}
 use Rattle.reassembly.specs.Step as OneStep

@@ -233,7 +233,7 @@ pub data Beside (us : ℕ) : State → List ℕ → List (List ℕ) → List Rep
   stepped : (state : State) (buffer frame : List ℕ) (frames : List (List ℕ)) (replies : List Reply)
       → Beside us (OneStep.step_of us state buffer frame).answer.state (OneStep.step_of us state buffer frame).buffer frames replies
       → Beside us state buffer (frame ∷ frames) (reply_of_one (OneStep.step_of us state buffer frame) ∷ replies)
-  turned_away_lem : (buffer frame : List ℕ) (frames : List (List ℕ)) (replies : List Reply) (h : Header)
+  got_fifteen : (buffer frame : List ℕ) (frames : List (List ℕ)) (replies : List Reply) (h : Header)
       → parsed us frame ≡ Parsed.Header h
       → is_first h ≡ true
       → Beside us Fresh buffer frames replies

@@ -1,12 +1,11 @@
 -- One call with several senders (document 02, Q-7): what it answers, and the places and the buffer after it. Where a frame has its place, it is the step of the crate
 -- `reassembly` in that place's bytes.
 -- Assumes nothing.
-use Rattle.std.specs.Prelude.{ℕ, Bool, cond, not, List, ltb, length, set, replicate}
+use Rattle.std.specs.Prelude.{ℕ, cond, not, List, ltb, length, set, replicate}
 use Rattle.frame.specs.Layout.{message_max}
 use Rattle.frame.specs.Reading.{parsed, data_of}
 use Rattle.frame.specs.declared.Header.{Header}
 use Rattle.frame.specs.declared.read.Parsed.{Parsed}
-use Rattle.frame.specs.declared.read.Parsed.TheVariants as Parsed
 use Rattle.reassembly.specs.Step as One
 use Rattle.reassembly.specs.Step.{lacks_data_def, exceeds, is_first, received}
 use Rattle.reassembly.specs.declared.State.{State}

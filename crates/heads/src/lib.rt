@@ -91,6 +91,7 @@ fn take_in(
 }
 
 // Why a frame with Index 0 is refused where no place is free.
+#[tactic(auto, unfolding(crate::specs::Step::crowded))]
 fn crowd(size: usize, total: u32) -> Reason
     ensures { result ≡ crowded size total }
 {
@@ -161,7 +162,7 @@ fn unread(parsed: Parsed) -> Reason
     }
 }
 
-// One call: a frame, for the receiver `us`. `places` are 64 numbers (see `placesIn`): a zeroed block is eight fresh places.
+// One call: a frame, for the receiver `us`. `places` are 64 numbers (see `places_in`): a zeroed block is eight fresh places.
 // Accepted data lands in the bytes of its own place; a refusal changes no byte of the buffer.
 pub fn step(places: &mut [u32; 64], frame: &[u8], us: u32, buf: &mut [u8]) -> Verdict
     ensures value { result ≡ (step_of us (places_in places.old) buf.old frame.now).verdict }

@@ -35,6 +35,7 @@ fn no_state() -> State
 }
 
 // Numbers that are no state read as one that is refused.
+#[tactic(auto, unfolding(crate::specs::Numbers::state_in_def))]
 fn state_in(row: &[u32]) -> State
     requires { length row.now ≡ row_size }
     ensures { result ≡ state_in_def row.now }
@@ -251,6 +252,7 @@ fn are_distinct(places: &[u32]) -> bool
 }
 
 // Whether the places are such as calls leave, over a buffer of `room` bytes.
+#[tactic(auto, unfolding(crate::specs::Places::legal))]
 pub(crate) fn are_legal(places: &[u32], room: usize) -> bool
     requires { length places.now ≡ number_count }
     ensures { result ≡ legal (places_in places.now) room }

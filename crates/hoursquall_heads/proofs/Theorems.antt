@@ -170,7 +170,7 @@ lent_kept : (us : ℕ) (lent : Lent) (f : List ℕ) → length lent.places ≡ n
 lent_kept us lent f len not-11 = go (legal (places_in lent.places) (length lent.buffer)) refl
   where
     go : (ok : Bool) → legal (places_in lent.places) (length lent.buffer) ≡ ok → numbers_of (places_in lent.places) ≡ lent.places
-    go true e = all_kept place_count lent.places (sym len) (legal_known (places_in lent.places) (length lent.buffer) e).all_consistent_lem
+    go true e = all_kept place_count lent.places (sym len) (legal_known (places_in lent.places) (length lent.buffer) e).places_consistent
     go false e =
         let is = (eleven_exactly us (places_in lent.places) lent.buffer f (length_places place_count lent.places)).0 e in
         absurd (not-11 (ap (λ (st : Stepped). verdict_number st.verdict) is))

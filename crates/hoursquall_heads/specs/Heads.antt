@@ -1,6 +1,6 @@
 -- The answers of the crate `heads` as numbers.
 -- Assumes nothing.
-use Rattle.std.specs.Prelude.{ℕ, List, [], ◌∷◌}
+use Rattle.std.specs.Prelude.{ℕ, List}
 use Rattle.frame.specs.Layout.{words_of}
 use Rattle.heads.specs.Numbers.{places_in, numbers_of}
 use Rattle.heads.specs.Step.{number_of, Stepped, step_of}

@@ -9,8 +9,7 @@ use Rattle.frame.specs.declared.Header.{Header}
 use Rattle.frame.specs.declared.read.Parsed.TheVariants as Parsed
 use Rattle.frame.specs.Reading.{parsed}
 use Rattle.reassembly.specs.Run.{HandedUp, messages}
-use Rattle.reassembly.specs.Traffic.{Transmission, Traffic, LegalTraffic, calls, arrived, expected}
-use Rattle.reassembly.specs.declared.State.{State}
+use Rattle.reassembly.specs.Traffic.{Traffic, LegalTraffic, calls, arrived, expected}
 use Rattle.heads.specs.Places.{place_size, buffer_min, all_fresh, without}
 use Rattle.heads.specs.Step.{Stepped}
 use Rattle.heads.specs.Numbers.{number_count, places_in, numbers_of}

@@ -10,7 +10,7 @@ use heads::Verdict;
 // The answer that a message is delivered.
 const DELIVERED: u32 = 100;
 
-// Takes one frame in. `places` is a block of 64 numbers (see `placesIn`); `words` receives the carried words of a message
+// Takes one frame in. `places` is a block of 64 numbers (see `places_in`); `words` receives the carried words of a message
 // that is delivered, and `place` its place.
 #[unsafe(no_mangle)]
 pub extern "C" fn hs_heads_step(
