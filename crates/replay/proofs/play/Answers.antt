@@ -1,7 +1,6 @@
 -- By what the record's reader answers.
-use Rattle.std.proofs.Common.{ℕ, List, refl, sym, ap, ◌∙◌}
-use Rattle.reassembly.specs.Step.{step_of}
-use Rattle.replay.specs.Day.{ran}
+use Rattle.std.proofs.Common.{refl, sym, ap}
+use Rattle.replay.specs.Day.{Stage}
 use Rattle.replay.proofs.Playing.{as_in, is_skipped, is_run}
 use Rattle.replay.proofs.play.Goals as goal
 
@@ -14,11 +13,9 @@ returns-in-Refused-clause-buffer_after c = (as_in _ _ _ _ (is_skipped c.args.us 
 pub returns-in-Frame-clause-value : goal.returns-in-Frame-clause-value
 returns-in-Frame-clause-value c =
     let runs = is_run c.args.us c.args.state c.args.buffer.now c.args.slice.now _ (sym c.in-Frame.ensures) in
-    let cut = ap (λ (f : List ℕ). ran (step_of c.args.us c.args.state c.args.buffer.now f)) (sym c.cut.ensures) in
-    (as_in _ _ _ _ (runs ∙ cut) c.run_frame.ensures.value c.run_frame.ensures.buffer_after).0
+    cc runs
 
 pub returns-in-Frame-clause-buffer_after : goal.returns-in-Frame-clause-buffer_after
 returns-in-Frame-clause-buffer_after c =
     let runs = is_run c.args.us c.args.state c.args.buffer.now c.args.slice.now _ (sym c.in-Frame.ensures) in
-    let cut = ap (λ (f : List ℕ). ran (step_of c.args.us c.args.state c.args.buffer.now f)) (sym c.cut.ensures) in
-    (as_in _ _ _ _ (runs ∙ cut) c.run_frame.ensures.value c.run_frame.ensures.buffer_after).1
+    cc (ap (λ (s : Stage). s.buffer) runs)
