@@ -7,8 +7,9 @@ use mathlib.Core.List.{List}
 use borrow.Author.Tests.{lt-ltb, le-ltb, lt-leb, le-leb, ltb-false, leb-false}
 use native.Mathlib.Nat.{mod-eq_of_lt, mod-eq-sub-mod}
 use native.Mathlib.Omega.{arith}
+use lib.Dec.{ltb}
 use lib.ListN.{length}
-use Rattle.le.proofs.Tests.{apart, neither, past}
+use Rattle.le.proofs.Tests.{apart, neither, past, agree}
 use Rattle.notice.specs.Ring.{header_size, ring_min, ring_max, is_small, is_large, is_uneven, is_outside, bad_ring, is_between, waiting, is_empty, free, is_long, is_full, moved, posted, id_at, length_at, lacks_header, lacks_data_def, damaged, is_short, taken_of}
 use Rattle.notice.specs.declared.Positions.{Positions}
 use Rattle.notice.specs.declared.Reason.TheVariants.{BadRing, Empty, Damaged, OutputShort, DataLong, Full}
@@ -82,6 +83,10 @@ module _ (c : ℕ) (at : Positions) (n : ℕ) where
 
   pub has_room : header_size + n ≤ free c at → is_full c at n ≡ false
   has_room h = le-ltb (free c at) (header_size + n) h
+
+  -- counted behind the header
+  pub by_rest : header_size ≤ free c at → is_full c at n ≡ ltb (free c at - header_size) n
+  by_rest h = agree (free c at) (header_size + n) (free c at - header_size) n (λ l. omega arith) (λ l. omega arith)
 
   pub room_left : is_full c at n ≡ false → header_size + n ≤ free c at
   room_left e = ltb-false (free c at) (header_size + n) e
