@@ -3,7 +3,7 @@
 
 MAKEFLAGS += --no-print-directory
 
-# What is linked is the library that is built here.
+# What is linked are the libraries that are built here.
 unexport HOURSQUALL_LIB
 
 # Runs a command, and shows what it said only if it fails.
@@ -29,23 +29,21 @@ wrong-answers:
 	@scripts/wrong-answers.sh try $(CRATE)
 
 demo:
-	$(call quietly,rt check play)
+	$(call quietly,scripts/build.sh programs)
 	@cd crates/play/data && echo '$$ play receiver log' && ../../../target/bin/play receiver log
 
 vectors:
-	$(call quietly,rt check vectors)
+	$(call quietly,scripts/build.sh programs)
 	@target/bin/vectors
 
 examples:
-	$(call quietly,rt staticlib hoursquall)
-	$(call quietly,rt staticlib hoursquall_replay)
+	$(call quietly,scripts/build.sh libraries)
 	@scripts/examples.sh c
 	@scripts/examples.sh rust
 
 bench:
-	$(call quietly,rt staticlib hoursquall)
-	$(call quietly,rt staticlib hoursquall_replay)
-	$(call quietly,rt check play)
+	$(call quietly,scripts/build.sh libraries)
+	$(call quietly,scripts/build.sh programs)
 	@scripts/bench.sh
 
 times:

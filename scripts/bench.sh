@@ -8,7 +8,7 @@ cd "$(dirname "$0")/../rust"
 
 play=../target/bin/play
 [ -x "$play" ] || {
-    printf 'target/bin/play is missing: rt check play builds it\n' >&2
+    printf 'target/bin/play is missing: scripts/build.sh programs builds it\n' >&2
     exit 1
 }
 work=$(mktemp -d)

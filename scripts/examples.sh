@@ -3,7 +3,7 @@
 # Exits 0 only if that is examples/stdout.
 set -euo pipefail
 cd "$(dirname "$0")/.."
-unset HOURSQUALL_LIB # what is linked is the library that is built here
+unset HOURSQUALL_LIB # what is linked are the libraries that are built here
 
 c() {
     cc -std=c11 -Wall -Wextra -Werror -pedantic -Iinclude -o target/examples/c \

@@ -1,6 +1,6 @@
 #!/usr/bin/env bash
-# The gate: layout, documents, lints, proofs, must-fail edits, programs, and the examples and the
-# Rust tests over the static library. With the word 'quick' it tries no edits, and proves only what changed since the
+# The gate: proofs, must-fail edits, programs and layout (`rt ci`), documents, lints, and the examples and the
+# Rust tests over the static libraries. With the word 'quick' it tries no edits, and proves only what changed since the
 # last run. Its last line is 'N passed, M failed', over all of them; it exits 0 only if M is 0.
 set -u
 case ${1-} in
@@ -13,7 +13,7 @@ esac
 exec 2>&1 # one stream, so that the tally comes last
 cd "$(dirname "$0")/.." || exit 1
 
-unset HOURSQUALL_LIB # what is tested is the library that is built here
+unset HOURSQUALL_LIB # what is tested are the libraries that are built here
 passed=0
 failed=0
 times=()
@@ -72,15 +72,6 @@ within() { # FOLDER COMMAND...
     (cd "$1" && "${@:2}")
 }
 
-# Anything that it prints names a file that is not in the layout.
-rt_fmt() {
-    local said status
-    said=$(rt fmt --check 2>&1)
-    status=$?
-    [ -z "$said" ] || printf '%s\n' "$said"
-    [ "$status" -eq 0 ] && [ -z "$said" ]
-}
-
 # Runs a component of cargo that an installation may lack, on all Rust code.
 component() { # NAME WORDS...
     if cargo "$1" --version >/dev/null 2>&1; then
@@ -91,10 +82,15 @@ component() { # NAME WORDS...
     fi
 }
 
+# The kit's own gate, of every crate. An edit that cannot be applied or read counts for nothing there, so it fails here.
 rt_ci() {
-    local status tally='^([0-9]+) passed, ([0-9]+) failed$'
+    local status tally='^([0-9]+) passed, ([0-9]+) failed'
     rt ci 2>&1 | tee "$log"
     status=${PIPESTATUS[0]}
+    if grep -qE '^rt: ok.*, [1-9][0-9]* bad' "$log"; then
+        printf 'FAILED: rt ci has bad edits\n'
+        status=1
+    fi
     if [[ $(tail -n 1 "$log") =~ $tally ]]; then
         many "$status" "${BASH_REMATCH[1]}" "${BASH_REMATCH[2]}"
     else
@@ -102,8 +98,17 @@ rt_ci() {
     fi
 }
 
-staticlibs() {
-    one rt staticlib hoursquall && one rt staticlib hoursquall_replay
+builds() {
+    one quietly scripts/build.sh libraries && one quietly scripts/build.sh programs
+}
+
+# Shows what a command said only if it fails.
+quietly() { # COMMAND...
+    local said status
+    said=$("$@" 2>&1)
+    status=$?
+    [ "$status" -eq 0 ] || printf '%s\n' "$said"
+    return "$status"
 }
 
 examples() {
@@ -126,17 +131,16 @@ need cc
 log=$(mktemp) || exit 1
 trap 'rm -f "$log"' EXIT
 
-part 'rt fmt' one rt_fmt
+if [ "$mode" = quick ]; then
+    part 'rt all check' one quietly rt all check
+else
+    part 'rt ci' rt_ci
+fi
 part 'documents' one scripts/documents.sh
 part 'wrong answers apply' one scripts/wrong-answers.sh apply
 part 'cargo fmt' component fmt --check
 part 'cargo clippy' component clippy --release --offline --all-targets -- -D warnings
-if [ "$mode" = quick ]; then
-    part 'rt check' one rt check
-else
-    part 'rt ci' rt_ci
-fi
-if part 'rt staticlib' staticlibs; then
+if part 'libraries and programs' builds; then
     part 'examples' examples
     part 'cargo test' cargo_test
 else

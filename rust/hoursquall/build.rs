@@ -1,6 +1,6 @@
 //! Tells the linker where the two static libraries stand, that of the replay and all else: in the
-//! folder whose full path is in `HOURSQUALL_LIB`, or else where `rt staticlib hoursquall` and
-//! `rt staticlib hoursquall_replay` write them. Until something is linked they may be missing.
+//! folder whose full path is in `HOURSQUALL_LIB`, or else where `scripts/build.sh libraries` writes
+//! them. Until something is linked they may be missing.
 
 use std::env;
 use std::path::PathBuf;

@@ -1,7 +1,7 @@
 //! Hoursquall from Rust. The deck computer learns the sound speed from a firmware table and sends
 //! it to the towed head, twice. The second time the cable loses a frame, and the head gives notice.
 //!
-//! After `rt staticlib hoursquall`, `cargo run` in this package builds and runs it.
+//! After `scripts/build.sh libraries`, `cargo run` in this package builds and runs it.
 
 use hoursquall::{Envelope, Notice, Positions, Reassembly, Refusal, Region, Verdict, Words};
 use hoursquall::{FRAME_MAX, MESSAGE_MAX, NOTICE_MAX};

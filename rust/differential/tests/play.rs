@@ -28,7 +28,7 @@ fn program(words: &[&OsStr]) -> Command {
     let path = top("target/bin/play");
     assert!(
         path.is_file(),
-        "target/bin/play is missing: `rt check play` builds it"
+        "target/bin/play is missing: `scripts/build.sh programs` builds it"
     );
     let mut command = Command::new(path);
     command.args(words);
