@@ -1,7 +1,7 @@
 /* Hoursquall from C. The deck computer learns the sound speed from a firmware table and sends it to
  * the towed head, twice. The second time the cable loses a frame, and the head gives notice.
  *
- *     rt staticlib hoursquall
+ *     scripts/build.sh libraries
  *     cc -std=c11 -Iinclude examples/c/main.c target/staticlib/libhoursquall.a */
 #include <inttypes.h>
 #include <stdio.h>
