@@ -27,6 +27,7 @@ edits() { find crates -name '*.edit' -exec basename -a -s .edit {} +; }
 known_names() {
     grep -rohE "$name" --include='*.antt' --include='*.rt' --include='*.rs' crates rust/*/src rust/*/tests
     edits
+    ls crates
     find crates rust include docs scripts -name target -prune -o -name '*.*' -exec basename -a {} + | grep -oE "$name"
 }
 
