@@ -8,7 +8,7 @@ use reassembly::{Answer, Verdict};
 // The answer that a message is delivered.
 const DELIVERED: u32 = 100;
 
-// Takes one frame into a reassembly. `state` is a block of eight numbers (see `state_of`), `words` receives
+// Takes one frame into a reassembly. `state` is a block of eight numbers (see `state_of_def`), `words` receives
 // the carried words of a message that is delivered.
 pub fn hs_reassembly_step(
     state: &mut [u64; 8],
