@@ -17,11 +17,10 @@ day=$(date -u -r "$log" +%F)
 kit=$(rt version)
 
 page=$(awk -v cores="$cores" -v day="$day" -v kit="$kit" '
-    # rt: NAME proved
-    /^rt: [^ ]+ proved$/ { if (!($2 in edits)) { crates[++n] = $2; edits[$2] = 0 } }
     # rt: must-fail NAME/EDIT: refused, as it must be: PLACE
     /^rt: must-fail [^ ]+: refused/ {
         split($3, name, "/")
+        if (!(name[1] in edits)) crates[++n] = name[1]
         edits[name[1]]++
         all_edits++
     }
