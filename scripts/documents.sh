@@ -104,19 +104,29 @@ misplaced_names() {
         }' "$promises"
 }
 
-# A line CRATE FUNCTION for each function that is public outside its crate, a method with its type. The parts of the
-# program `vectors` only print, and `hoursquall_c` states again what `hoursquall` promises.
+# A line CRATE FUNCTION for each function that is public outside its crate, a method with its type or trait. The parts of
+# the program `vectors` only print.
 public_functions() {
     local crate
     for crate in crates/*/; do
         crate=$(basename "$crate")
-        case $crate in report | *_vectors | hoursquall_c) continue ;; esac
+        case $crate in report | *_vectors) continue ;; esac
         [ -f "crates/$crate/src/lib.rt" ] || continue
         find "crates/$crate/src" -name '*.rt' -exec awk -v crate="$crate" '
-            FNR == 1 || /^}/ { type = "" }
-            /^impl / { type = $2 "::" }
-            /^ *pub (extern "C" )?fn / {
-                sub(/^.* fn /, "")
+            FNR == 1 || /^}/ { type = ""; in_trait = 0 }
+            /^impl/ && !/ for / {
+                type = $0
+                sub(/^impl(<[^>]*>)? /, "", type)
+                sub(/[<{ ].*/, "::", type)
+            }
+            /^pub trait / {
+                type = $3
+                sub(/[:<{].*/, "", type)
+                type = type "::"
+                in_trait = 1
+            }
+            /^ *pub (extern "C" )?fn / || (in_trait && /^    fn /) {
+                sub(/^.*fn /, "")
                 sub(/[<(].*/, "")
                 print crate, type $0
             }' {} +

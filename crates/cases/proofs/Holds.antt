@@ -16,10 +16,10 @@ use Rattle.region.specs.Region.{outside}
 use Rattle.ubios.specs.Checks.{bad_size, judged, checked, bad_count, root_judged, root_checked}
 use Rattle.sfi.specs.Kinds.{among}
 use Rattle.sfi.specs.Checks.{bad_length, bad_entries, judged as sfiJudged, header_checked, checked as sfiChecked}
-use Rattle.cases.specs.Cases.{is_count, is_length, holds, all_hold, starred, StarredHold, LogHoldsFrames}
+use Rattle.cases.specs.Cases.{is_answer, holds, all_hold, starred, StarredHold, LogHoldsFrames}
 
 pub starred_hold : StarredHold
-unfolding word bytes total total_of sum header_bytes parsed count_of counted written consistent accept begin proceed routed received answers bad_ring waiting moved posted taken_of run end up_to_zero outside bad_size judged checked bad_count root_judged root_checked among bad_length bad_entries sfiJudged header_checked sfiChecked same is_count is_length holds all_hold starred
+unfolding word bytes total total_of sum header_bytes parsed count_of counted written consistent accept begin proceed routed received answers bad_ring waiting moved posted taken_of run end up_to_zero outside bad_size judged checked bad_count root_judged root_checked among bad_length bad_entries sfiJudged header_checked sfiChecked same is_answer holds all_hold starred
 starred_hold = refl
 
 pub log_holds_frames : LogHoldsFrames

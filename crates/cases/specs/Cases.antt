@@ -1,7 +1,7 @@
 -- Document 01, "Numbers to check by": the starred numbers, as one table and one statement over it. Each row is a question to the definitions
 -- that the code is proved to meet, and the answer that the document gives. And an equation between two crates that do not know each other.
 -- Assumes nothing.
-use Rattle.std.specs.Prelude.{ℕ, ◌+◌, Bool, true, false, ◌&&◌, ◌≡◌, List, [], ◌∷◌, ◌++◌, map, eqb, length, take, replicate}
+use Rattle.std.specs.Prelude.{ℕ, ◌+◌, Bool, true, false, ◌&&◌, ◌≡◌, List, [], ◌∷◌, ◌++◌, map, eqb, length, take, replicate, Result, Ok, Err}
 use Rattle.le.specs.Word.{bytes}
 use Rattle.le.specs.Sum.{sum, checksum_of}
 use Rattle.le.specs.Compare.{same}
@@ -19,18 +19,10 @@ use Rattle.notice.specs.Statements.{empty}
 use Rattle.ubios.specs.Layout.{root_name}
 use Rattle.ubios.specs.Checks as Checks
 use Rattle.ubios.specs.Statements.{head_of}
-use Rattle.ubios.specs.declared.RootChecked.{RootChecked}
-use Rattle.ubios.specs.declared.RootChecked.TheVariants.{Passed as RootPassed, Refused as RootRefused}
 use Rattle.sfi.specs.Kinds.{cpus}
 use Rattle.sfi.specs.Checks as SfiChecks
 use Rattle.sfi.specs.Statements as SfiTables
-use Rattle.sfi.specs.declared.Checked as Sfi
-use Rattle.sfi.specs.declared.Checked.TheVariants.{Passed as SfiPassed, Refused as SfiRefused}
 use Rattle.framelog.specs.Layout as Log
-use Rattle.frame.specs.declared.write.Counted.{Counted}
-use Rattle.frame.specs.declared.write.Counted.TheVariants.{Frames, Refused as Uncounted}
-use Rattle.frame.specs.declared.write.Written.{Written}
-use Rattle.frame.specs.declared.write.Written.TheVariants.{Frame, Refused as Unwritten}
 
 -- a question, with its answer last
 pub data Case : Type 0 where
@@ -55,13 +47,10 @@ pub data Case : Type 0 where
   -- the refusal of these bytes as an SFI table; 0 where it passes
   sfi_tables : List ℕ → ℕ → Case
 
-unfoldable pub is_count : Counted → ℕ → Bool
-is_count (Frames n) expected = eqb n expected
-is_count (Uncounted reason) expected = false
-
-unfoldable pub is_length : Written → ℕ → Bool
-is_length (Frame n) expected = eqb n expected
-is_length (Unwritten reason) expected = false
+-- whether it is this number that is answered
+unfoldable pub is_answer : {R : Type 0} → Result ℕ R → ℕ → Bool
+is_answer (Ok n) expected = eqb n expected
+is_answer (Err reason) expected = false
 
 abbrev pub refusal_of : Verdict → ℕ
 refusal_of More = 0
@@ -74,23 +63,20 @@ seen_refusal (rejected reason) = Ring.number_of reason
 seen_refusal (given id n out) = 0
 seen_refusal (nothing reason out) = Ring.number_of reason
 
-abbrev pub root_refusal : RootChecked → ℕ
-root_refusal (RootPassed root) = 0
-root_refusal (RootRefused reason) = Checks.number_of reason
-
-abbrev pub sfi_refusal : Sfi.Checked → ℕ
-sfi_refusal (SfiPassed table) = 0
-sfi_refusal (SfiRefused reason) = SfiChecks.number_of reason
+-- the refusal of an answer, by the numbers of its crate; 0 where there is none
+abbrev pub refused : {T R : Type 0} → (R → ℕ) → Result T R → ℕ
+refused number (Ok answered) = 0
+refused number (Err reason) = number reason
 
 -- 256 zero bytes
 abbrev pub output : List ℕ
 output = replicate 256 0
 
 unfoldable pub holds : Case → Bool
-unfolding is_count is_length
+unfolding is_answer
 holds (sums k s expected) = eqb (sum k s) expected
-holds (counts total size expected) = is_count (counted total size) expected
-holds (frames e message size index expected) = is_length (written e message size index output) expected
+holds (counts total size expected) = is_answer (counted total size) expected
+holds (frames e message size index expected) = is_answer (written e message size index output) expected
 holds (writes e message size index expected) =
     same (take (length expected) (output_after e message size index output)) expected
 holds (refuses e message size indices expected) =
@@ -101,8 +87,8 @@ holds (leaves ops read write expected) =
     && (eqb (end ring_step (empty 0 (replicate 16 0)) ops).at.write write
     && same (end ring_step (empty 0 (replicate 16 0)) ops).bytes expected)
 holds (checksums k head behind expected) = eqb (checksum_of k head behind) expected
-holds (roots s expected) = eqb (root_refusal (Checks.root_checked s 4096 4096)) expected
-holds (sfi_tables s expected) = eqb (sfi_refusal (SfiChecks.checked s)) expected
+holds (roots s expected) = eqb (refused Checks.number_of (Checks.root_checked s 4096 4096)) expected
+holds (sfi_tables s expected) = eqb (refused SfiChecks.number_of (SfiChecks.checked s)) expected
 
 unfoldable pub all_hold : List Case → Bool
 unfolding holds

@@ -4,21 +4,24 @@
 --     starts_within    the frames below the count start inside the message, or at its end where it is empty
 --     index_small      so their Index is at most the message's length
 --     count_covers     the pieces reach the message's end
---     too_long, no_size, large_size, counts     one law for each of the count's answers
+--     ceil_rounded     the count as the library's method rounds it up
 --     counted_legal    where there is a count, the length and the piece size are legal, and the count is theirs
 -- Assumes nothing.
-use Prim.Native.Nat.{ℕ, zero, suc, ◌+◌, ◌-◌, ◌*◌, ◌≤◌, ◌<◌}
+use Prim.Native.Nat.{ℕ, zero, suc, ◌+◌, ◌-◌, ◌*◌, ◌/◌, ◌≤◌, ◌<◌}
 use mathlib.Core.Bool.{Bool, true, false, cond, ◌||◌}
-use mathlib.Core.Path.{◌≡◌, refl}
-use borrow.Author.Tests.{lt-ltb, le-ltb, eq-eqb, ne_eqb, ltb-false, eqb-false}
+use mathlib.Core.Path.{◌≡◌, refl, sym, ap, ◌∙◌}
+use borrow.Author.Tests.{ne_eqb, ltb-false, eqb-false}
 use native.Mathlib.Nat.{suc-mul, mul-one, zero-mul, le-div_iff_mul-le, lt-div-mul-add, mul-le-mul_left}
 use native.Mathlib.Omega.{arith}
+use Rattle.std.specs.Prelude.{Ok, Err}
+use Rattle.std.specs.Int.{div_ceil}
+use Rattle.std.proofs.lemmas.Grind.{div_ceil_times}
+use Rattle.std.proofs.lemmas.Nat.{div-mul-add}
 use lib.Dec.{ltb, eqb}
 use Rattle.frame.specs.Layout.{piece_max, message_max}
 use Rattle.frame.specs.Writing.{rounded_up, count_of, counted}
 use Rattle.frame.specs.declared.write.Reason.{Reason}
 use Rattle.frame.specs.declared.write.Reason.TheVariants.{MessageLong, PieceSize}
-use Rattle.frame.specs.declared.write.Counted.TheVariants.{Frames, Refused as Uncounted}
 
 pub count_empty : (size : ℕ) → count_of 0 size ≡ 1
 unfolding count_of
@@ -47,22 +50,14 @@ pub count_covers : (n size : ℕ) → 0 < size → n ≤ count_of n size * size
 count_covers zero size s = omega arith
 count_covers (suc n) size s = rw (count_more (suc n) size (omega arith)) (omega (arith, lt-div-mul-add {a = suc n + (size - 1)} s))
 
-module _ (n size : ℕ) where
-  pub too_long : message_max < n → Uncounted MessageLong ≡ counted n size
-  unfolding counted
-  too_long h = rw (lt-ltb message_max n h)
-
-  pub no_size : n ≤ message_max → size ≡ 0 → Uncounted PieceSize ≡ counted n size
-  unfolding counted
-  no_size h s = rw (le-ltb message_max n h, eq-eqb size 0 s)
-
-  pub large_size : n ≤ message_max → piece_max < size → Uncounted PieceSize ≡ counted n size
-  unfolding counted
-  large_size h s = rw (le-ltb message_max n h, ne_eqb size 0 (λ e. omega arith), lt-ltb piece_max size s)
-
-  pub counts : n ≤ message_max → 0 < size → size ≤ piece_max → Frames (count_of n size) ≡ counted n size
-  unfolding counted
-  counts h s l = rw (le-ltb message_max n h, ne_eqb size 0 (λ e. omega arith), le-ltb piece_max size l)
+-- as the library rounds up
+pub ceil_rounded : (n size : ℕ) → 0 < size → div_ceil n size ≡ rounded_up n size
+ceil_rounded n size h =
+    let m = div_ceil n size in
+    let over = div_ceil_times n size h in
+    let left = n + (size - 1) - m * size in
+    let whole : n + (size - 1) ≡ m * size + left = omega (arith, over.0, over.1) in
+    sym (div-mul-add m size left (omega (arith, over.0, over.1))) ∙ ap (λ (k : ℕ). k / size) (sym whole)
 
 -- a legal length and piece size, and the count that is theirs
 pub record Legal (n size frames : ℕ) : Type 0 where
@@ -71,15 +66,15 @@ pub record Legal (n size frames : ℕ) : Type 0 where
   pub piece : size ≤ piece_max
   pub count : frames ≡ count_of n size
 
-refusal_no_count : {A : Type 0} {reason : Reason} {frames : ℕ} → Uncounted reason ≡ Frames frames → A
+pub refusal_no_count : {A : Type 0} {reason : Reason} {frames : ℕ} → Err reason ≡ Ok frames → A
 refusal_no_count q = let z : ◌≡◌ {A = ℕ} 0 1 = cc in absurd (omega arith)
 
-pub counted_legal : (n size frames : ℕ) → counted n size ≡ Frames frames → Legal n size frames
+pub counted_legal : (n size frames : ℕ) → counted n size ≡ Ok frames → Legal n size frames
 unfolding counted
 counted_legal n size frames e = go (ltb message_max n) (eqb size 0) (ltb piece_max size) refl refl refl e
   where
     go : (long none large : Bool) → ltb message_max n ≡ long → eqb size 0 ≡ none → ltb piece_max size ≡ large
-        → cond long (Uncounted MessageLong) (cond (none || large) (Uncounted PieceSize) (Frames (count_of n size))) ≡ Frames frames
+        → cond long (Err MessageLong) (cond (none || large) (Err PieceSize) (Ok (count_of n size))) ≡ Ok frames
         → Legal n size frames
     go true none large l s b q = refusal_no_count q
     go false true large l s b q = refusal_no_count q

@@ -1,6 +1,6 @@
 -- What is proved of frames, beside each function's own contract. The proofs are in `proofs/Theorems.antt`, under the names given here.
 -- Assumes nothing.
-use Rattle.std.specs.Prelude.{ℕ, zero, suc, ◌^◌, ◌≤◌, ◌<◌, ◌≡◌, length, take, drop}
+use Rattle.std.specs.Prelude.{ℕ, zero, suc, ◌^◌, ◌≤◌, ◌<◌, ◌≡◌, Ok, Err, length, take, drop}
 use mathlib.Core.List.{List, [], ◌∷◌, map, flatten}
 use Rattle.frame.specs.Layout.{header_size, frame_max, header_for}
 use Rattle.frame.specs.Framing.{Framing}
@@ -9,8 +9,6 @@ use Rattle.frame.specs.Writing.{counted, piece_of, frame_at, written, output_aft
 use Rattle.frame.specs.declared.Envelope.{Envelope}
 use Rattle.frame.specs.declared.read.Parsed.TheVariants.{Header}
 use Rattle.frame.specs.declared.write.Reason.TheVariants.{NoFrame}
-use Rattle.frame.specs.declared.write.Counted.TheVariants.{Frames}
-use Rattle.frame.specs.declared.write.Written.TheVariants.{Frame, Refused as Unwritten}
 
 -- the sequence number is a byte and the other words are of 32 bits, as each `u8` and each `u32` is
 pub record Fits (e : Envelope) : Type 0 where
@@ -44,21 +42,21 @@ abbrev pub ReadsBack : Type 0
 ReadsBack =
     (e : Envelope) (message : List ℕ) (size index : ℕ) (out : List ℕ) (n : ℕ)
     → Fits e
-    → written e message size index out ≡ Frame n
+    → written e message size index out ≡ Ok n
     → Meant e message size index out n
 
 -- `pieces_join`. The pieces joined are the message.
 abbrev pub PiecesJoin : Type 0
 PiecesJoin =
     (message : List ℕ) (size count : ℕ)
-    → counted (length message) size ≡ Frames count
+    → counted (length message) size ≡ Ok count
     → flatten (pieces_of message size count) ≡ message
 
 -- `pieces_full`. "All pieces but the last have the piece size."
 abbrev pub PiecesFull : Type 0
 PiecesFull =
     (message : List ℕ) (size count index : ℕ)
-    → counted (length message) size ≡ Frames count
+    → counted (length message) size ≡ Ok count
     → suc index < count
     → length (piece_of size index message) ≡ size
 
@@ -66,22 +64,22 @@ PiecesFull =
 abbrev pub WritesAFraming : Type 0
 WritesAFraming =
     (e : Envelope) (message : List ℕ) (size count : ℕ)
-    → counted (length message) size ≡ Frames count
+    → counted (length message) size ≡ Ok count
     → Framing e message (map (frame_at e message size) (count_up 0 count))
 
 -- `writes_each`. Where the count is answered, each frame below it is written if the output holds it;
 abbrev pub WritesEach : Type 0
 WritesEach =
     (e : Envelope) (message : List ℕ) (size count index : ℕ) (out : List ℕ)
-    → counted (length message) size ≡ Frames count
+    → counted (length message) size ≡ Ok count
     → index < count
     → length (frame_at e message size index) ≤ length out
-    → written e message size index out ≡ Frame (length (frame_at e message size index))
+    → written e message size index out ≡ Ok (length (frame_at e message size index))
 
 -- `writes_no_other`. and every other Index is refused with 13.
 abbrev pub WritesNoOther : Type 0
 WritesNoOther =
     (e : Envelope) (message : List ℕ) (size count index : ℕ) (out : List ℕ)
-    → counted (length message) size ≡ Frames count
+    → counted (length message) size ≡ Ok count
     → count ≤ index
-    → written e message size index out ≡ Unwritten NoFrame
+    → written e message size index out ≡ Err NoFrame

@@ -7,8 +7,10 @@ pub mod write;
 ghost use Rattle.std.specs.Prelude.{◌≡◌};
 ghost use Rattle.frame.specs.Layout.{header_of, header_for, header_bytes};
 
+use le::Word;
+
 // What a message is sent under: the carried words but for its length, and the Receiver ID.
-#[derive(Clone, Copy)]
+#[derive(Clone, Copy, Debug, PartialEq, Eq)]
 pub struct Envelope {
     // The message's number, in the byte that table 11 calls Reserved.
     pub sequence: u8,
@@ -23,7 +25,7 @@ pub struct Envelope {
 }
 
 // The five carried words, which every frame of a message repeats.
-#[derive(Clone, Copy)]
+#[derive(Clone, Copy, Debug, PartialEq, Eq)]
 pub struct Words {
     pub sequence: u8,
     pub id: u32,
@@ -33,7 +35,7 @@ pub struct Words {
     pub total: u32,
 }
 
-#[derive(Clone, Copy)]
+#[derive(Clone, Copy, Debug, PartialEq, Eq)]
 pub struct Header {
     pub index: u16,
     pub receiver: u32,
@@ -73,55 +75,33 @@ impl Header {
         ensures { result ≡ header_of frame.now }
     {
         Header {
-            index: le::word::u16_at(frame, 2),
-            receiver: le::word::u32_at(frame, 12),
+            index: u16::at(frame, 2),
+            receiver: u32::at(frame, 12),
             words: Words {
-                sequence: le::word::u8_at(frame, 1),
-                id: le::word::u32_at(frame, 4),
-                sender: le::word::u32_at(frame, 8),
-                status: le::word::u32_at(frame, 16),
-                total: le::word::u32_at(frame, 20),
+                sequence: u8::at(frame, 1),
+                id: u32::at(frame, 4),
+                sender: u32::at(frame, 8),
+                status: u32::at(frame, 16),
+                total: u32::at(frame, 20),
             },
         }
     }
 
     // The header as it is written.
+    #[tactic(auto, unfolding(le::specs::Word::bytes))]
     pub fn bytes(self) -> [u8; 24]
         ensures { result ≡ header_bytes self }
     {
         let words = self.words;
-        let n = le::word::u8_bytes(words.sequence);
-        let i = le::word::u16_bytes(self.index);
-        let m = le::word::u32_bytes(words.id);
-        let s = le::word::u32_bytes(words.sender);
-        let r = le::word::u32_bytes(self.receiver);
-        let o = le::word::u32_bytes(words.status);
-        let t = le::word::u32_bytes(words.total);
-        [
-            Self::TYPE_VERSION,
-            n[0],
-            i[0],
-            i[1],
-            m[0],
-            m[1],
-            m[2],
-            m[3],
-            s[0],
-            s[1],
-            s[2],
-            s[3],
-            r[0],
-            r[1],
-            r[2],
-            r[3],
-            o[0],
-            o[1],
-            o[2],
-            o[3],
-            t[0],
-            t[1],
-            t[2],
-            t[3],
-        ]
+        let mut bytes = [0u8; 24];
+        bytes[0] = Self::TYPE_VERSION;
+        bytes[1] = words.sequence;
+        bytes[2..4].copy_from_slice(&self.index.bytes());
+        bytes[4..8].copy_from_slice(&words.id.bytes());
+        bytes[8..12].copy_from_slice(&words.sender.bytes());
+        bytes[12..16].copy_from_slice(&self.receiver.bytes());
+        bytes[16..20].copy_from_slice(&words.status.bytes());
+        bytes[20..24].copy_from_slice(&words.total.bytes());
+        bytes
     }
 }

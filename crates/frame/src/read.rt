@@ -3,9 +3,10 @@ ghost use Rattle.std.specs.Prelude.{◌≡◌};
 ghost use Rattle.frame.specs.Reading.{parsed, data_of, number_of};
 
 use crate::Header;
+use le::Word;
 
 // Why a frame is refused.
-#[derive(Clone, Copy)]
+#[derive(Clone, Copy, Debug, PartialEq, Eq)]
 pub enum Reason {
     // 1: under 24 bytes.
     FrameShort,
@@ -17,7 +18,8 @@ pub enum Reason {
     OtherReceiver,
 }
 
-#[derive(Clone, Copy)]
+// What the reader answers. An enum of its own and no Result: the scope names this form.
+#[derive(Clone, Copy, Debug, PartialEq, Eq)]
 pub enum Parsed {
     Header(Header),
     Refused(Reason),
@@ -38,6 +40,7 @@ impl Reason {
 }
 
 // The header of a frame for the receiver `us`, or the first reason to refuse it.
+#[tactic(auto, unfolding(crate::specs::Reading::parsed))]
 pub fn parse(frame: &[u8], us: u32) -> Parsed
     ensures { result ≡ parsed us frame.now }
 {
@@ -47,7 +50,7 @@ pub fn parse(frame: &[u8], us: u32) -> Parsed
     if Header::FRAME_MAX < frame.len() {
         return Parsed::Refused(Reason::FrameLong);
     }
-    if le::word::u8_at(frame, 0) != Header::TYPE_VERSION {
+    if u8::at(frame, 0) != Header::TYPE_VERSION {
         return Parsed::Refused(Reason::WrongType);
     }
     let header = Header::read(frame);

@@ -7,7 +7,7 @@ ghost use Rattle.frame.specs.Writing.{counted, number_of, piece_of, frame_at, wr
 use crate::{Envelope, Header};
 
 // Why a count or a frame is refused.
-#[derive(Clone, Copy)]
+#[derive(Clone, Copy, Debug, PartialEq, Eq)]
 pub enum Reason {
     // 10: message over 4,096 bytes.
     MessageLong,
@@ -17,19 +17,6 @@ pub enum Reason {
     NoFrame,
     // 14: output shorter than the frame.
     OutputShort,
-}
-
-#[derive(Clone, Copy)]
-pub enum Counted {
-    Frames(usize),
-    Refused(Reason),
-}
-
-#[derive(Clone, Copy)]
-pub enum Written {
-    // The frame's length.
-    Frame(usize),
-    Refused(Reason),
 }
 
 impl Reason {
@@ -47,22 +34,20 @@ impl Reason {
 }
 
 // How many frames a message of `total` bytes makes in pieces of `size`.
-pub fn count(total: usize, size: usize) -> Counted
+#[tactic(auto, using(crate::proofs::Counting::ceil_rounded), unfolding(crate::specs::Writing::counted, crate::specs::Writing::count_of))]
+pub fn count(total: usize, size: usize) -> Result<usize, Reason>
     ensures { result ≡ counted total size }
 {
     if Header::MESSAGE_MAX < total {
-        return Counted::Refused(Reason::MessageLong);
+        return Err(Reason::MessageLong);
     }
-    if size == 0 {
-        return Counted::Refused(Reason::PieceSize);
-    }
-    if Header::PIECE_MAX < size {
-        return Counted::Refused(Reason::PieceSize);
+    if size == 0 || Header::PIECE_MAX < size {
+        return Err(Reason::PieceSize);
     }
     if total == 0 {
-        return Counted::Frames(1);
+        return Ok(1);
     }
-    Counted::Frames((total + (size - 1)) / size)
+    Ok(total.div_ceil(size))
 }
 
 // The piece of a message that the frame with this Index carries.
@@ -72,42 +57,42 @@ fn piece(message: &[u8], size: usize, index: usize) -> &[u8]
     ensures { result.now ≡ piece_of size index message.now }
 {
     let start = index * size;
-    if size < message.len() - start {
-        &message[start..start + size]
-    } else {
-        &message[start..]
-    }
+    let end = message.len().min(start + size);
+    &message[start..end]
 }
 
-// Lays one frame at the output's start, if the output holds it.
-fn lay(header: Header, piece: &[u8], out: &mut [u8]) -> Written
+// Lays one frame at the output's start, if the output holds it, and answers with the frame's length.
+#[tactic(auto, using(crate::proofs::Writing::length_frame))]
+fn lay(header: Header, piece: &[u8], out: &mut [u8]) -> Result<usize, Reason>
     ensures value { result ≡ lay_answer (frame_of header piece.now) out.old }
     ensures out_after { out.new ≡ output_of result (frame_of header piece.now) out.old }
 {
     let length = Header::SIZE + piece.len();
     if out.len() < length {
-        return Written::Refused(Reason::OutputShort);
+        return Err(Reason::OutputShort);
     }
-    let head = header.bytes();
-    le::copy(&head, out);
-    le::copy(piece, &mut out[Header::SIZE..]);
-    Written::Frame(length)
+    out[..Header::SIZE].copy_from_slice(&header.bytes());
+    out[Header::SIZE..length].copy_from_slice(piece);
+    Ok(length)
 }
 
-// Writes the frame with this Index of a message cut in pieces of `size`; all pieces but the last have
-// that size. No byte past the frame changes, and a refusal changes none.
-pub fn write(e: Envelope, message: &[u8], size: usize, index: usize, out: &mut [u8]) -> Written
+// Writes the frame with this Index of a message cut in pieces of `size`, and answers with the frame's length; all
+// pieces but the last have that size. No byte past the frame changes, and a refusal changes none.
+#[tactic(auto, using(crate::proofs::Writing::writing))]
+pub fn write(
+    e: Envelope,
+    message: &[u8],
+    size: usize,
+    index: usize,
+    out: &mut [u8],
+) -> Result<usize, Reason>
     ensures value { result ≡ written e message.now size index out.old }
     ensures out_after { out.new ≡ output_of result (frame_at e message.now size index) out.old }
 {
-    match count(message.len(), size) {
-        Counted::Refused(reason) => Written::Refused(reason),
-        Counted::Frames(frames) => {
-            if frames <= index {
-                return Written::Refused(Reason::NoFrame);
-            }
-            let header = Header::new(e, message.len() as u32, index as u16);
-            lay(header, piece(message, size, index), out)
-        }
+    let frames = count(message.len(), size)?;
+    if frames <= index {
+        return Err(Reason::NoFrame);
     }
+    let header = Header::new(e, message.len() as u32, index as u16);
+    lay(header, piece(message, size, index), out)
 }

@@ -1,40 +1,32 @@
 -- The laws of a record: one for each answer, with what leads there.
 -- Assumes nothing.
 use Prim.Native.Nat.{ℕ, zero, suc, ◌+◌, ◌-◌, ◌/◌, ◌%◌, ◌^◌, ◌≤◌, ◌<◌}
-use mathlib.Core.Bool.{true, false}
+use mathlib.Core.Bool.{Bool, true, false, ◌&&◌, and_assoc, and-true}
 use mathlib.Core.Path.{◌≡◌, refl, sym, ap, ◌∙◌}
-use mathlib.Core.List.{List, ◌∷◌, ◌++◌, append-nil, append_assoc}
-use borrow.Author.Tests.{lt-ltb, le-ltb, eq-eqb, ne_eqb}
+use mathlib.Core.List.{List, [], ◌∷◌, ◌++◌, append-nil, append_assoc}
+use borrow.Author.Tests.{le-ltb, eq-eqb, ne_eqb}
 use native.Mathlib.Omega.{arith}
 use lib.ListN.{length, take, drop, length-append, length-drop, length-replicate, drop_of_length-le}
 use lib.Seq.{get_or-drop, length-take-le}
+use Rattle.std.specs.Prelude.{bit_or, ◌==◌, Ok, Err}
+use Rattle.std.specs.List.{fold}
+use Rattle.std.specs.Int.Bits.{or_zero_l}
+use Rattle.std.proofs.lemmas.List.{take-replicate, drop-replicate}
+use Rattle.std.proofs.lemmas.Nat.{le_or_l}
 use Rattle.le.specs.Word.{word, bytes, AreBytes}
 use Rattle.le.specs.Compare.{same}
 use Rattle.le.specs.Copy.{copied}
 use Rattle.le.proofs.Words.{length-bytes, word_same, word_within}
-use Rattle.le.proofs.Comparing.{equal_same, other_list, other_word, word_on, none_left}
+use Rattle.le.proofs.Comparing.{equal_same, other_list}
 use Rattle.le.proofs.Parts.{copied_whole}
 use Rattle.framelog.specs.Layout.{header_size, frame_max, length_of_def, reserved_of, zeros, rest_of, record_of}
 use Rattle.framelog.specs.Helpers.{filled}
 use Rattle.framelog.specs.Reading.{is_zero_def, read_of}
 use Rattle.framelog.specs.Writing.{written}
 use Rattle.framelog.specs.Statements.{Size}
-use Rattle.framelog.specs.declared.Reason.TheVariants.{WrongSize, NotZero, FrameLong, BadEnd}
-use Rattle.framelog.specs.declared.Logged.TheVariants.{Frame, Refused}
-use Rattle.framelog.specs.declared.Written.TheVariants.{Done, Refused as NotWritten}
+use Rattle.framelog.specs.declared.Reason.TheVariants.{WrongSize}
 
--- parts of zeros
-pub take-zeros : (n m : ℕ) → n ≤ m → take n (zeros m) ≡ zeros n
-take-zeros zero m h = refl
-take-zeros (suc n) zero h = absurd (omega arith)
-take-zeros (suc n) (suc m) h = ap (λ (l : List ℕ). 0 ∷ l) (take-zeros n m (omega arith))
-
-pub drop-zeros : (n m : ℕ) → drop n (zeros m) ≡ zeros (m - n)
-drop-zeros zero m = let all : m - 0 ≡ m = omega arith in rw all
-drop-zeros (suc n) zero = let none : 0 - suc n ≡ 0 = omega arith in rw none
-drop-zeros (suc n) (suc m) = let less : suc m - suc n ≡ m - n = omega arith in rw less (drop-zeros n m)
-
--- their words are 0, and each of them is a byte
+-- the words of zeros are 0, and each of them is a byte
 word-zeros : (k n : ℕ) → word k (zeros n) ≡ 0
 unfolding word
 word-zeros zero n = refl
@@ -46,26 +38,20 @@ zeros_are zero i = omega arith
 zeros_are (suc n) zero = omega arith
 zeros_are (suc n) (suc i) = zeros_are n i
 
--- bytes are compared with as many zeros, a word at a time
-module _ (s : List ℕ) where
-  -- what stands from a place on decides
-  abbrev pub ZeroFrom : ℕ → Type 0
-  ZeroFrom at = same (drop at s) (drop at (zeros (length s))) ≡ is_zero_def s
+-- a `|` is 0 where both are, and the `|` of all bytes where each is
+or_zero : (a b : ℕ) → (bit_or a b == 0) ≡ (a == 0 && b == 0)
+or_zero zero b = rw (or_zero_l b)
+or_zero (suc a) b =
+    let above = le_or_l (suc a) b in
+    ne_eqb _ 0 (λ e. omega arith) ∙ ap (λ (first : Bool). first && b == 0) (sym (ne_eqb (suc a) 0 (λ e. omega arith)))
 
-  long : length s ≡ length (zeros (length s))
-  long = sym (length-replicate (length s) 0)
+or_all : (a : ℕ) (s : List ℕ) → (fold bit_or a s == 0) ≡ (a == 0 && is_zero_def s)
+unfolding same
+or_all a [] = sym (and-true (a == 0))
+or_all a (x ∷ s) = or_all (bit_or a x) s ∙ rw (or_zero a x) (and_assoc (a == 0) (x == 0) (is_zero_def s))
 
-  zero_word : (at : ℕ) → word 8 (drop at (zeros (length s))) ≡ 0
-  zero_word at = ap (word 8) (drop-zeros at (length s)) ∙ word-zeros 8 (length s - at)
-
-  pub zero_on : (at : ℕ) → AreBytes s → ZeroFrom at → word 8 (drop at s) ≡ 0 → ZeroFrom (at + 8)
-  zero_on at are so_far e = sym (word_on s (zeros (length s)) at are (zeros_are (length s)) long (e ∙ sym (zero_word at))) ∙ so_far
-
-  pub zero_all : (at : ℕ) → length s ≤ at → ZeroFrom at → is_zero_def s ≡ true
-  zero_all at short so_far = sym so_far ∙ none_left s (zeros (length s)) at long short
-
-  pub zero_not : (at : ℕ) → (word 8 (drop at s) ≡ 0 → ⊥) → is_zero_def s ≡ false
-  zero_not at ne = other_word s (zeros (length s)) at (λ e. ne (e ∙ zero_word at))
+pub zero_by_or : (s : List ℕ) → (fold bit_or 0 s == 0) ≡ is_zero_def s
+zero_by_or s = or_all 0 s
 
 -- the reserved bytes are zero where their word is
 module _ (r : List ℕ) (large : header_size ≤ length r) where
@@ -83,47 +69,23 @@ module _ (r : List ℕ) (large : header_size ≤ length r) where
       let from : AreBytes (drop 2 r) = λ i. rw (get_or-drop 2 r i 0) (are (2 + i)) in
       let first : reserved_of r ≡ take 2 (zeros n) =
       word_same 2 (drop 2 r) (zeros n) from (zeros_are n) (sym (length-replicate n 0)) (e ∙ sym (word-zeros 2 n)) in
-      equal_same (reserved_of r) (zeros (length (reserved_of r))) (first ∙ take-zeros 2 n (rw (length-drop 2 r) (omega arith)) ∙ ap zeros (sym two))
+      equal_same (reserved_of r) (zeros (length (reserved_of r))) (first ∙ take-replicate 2 n 0 (rw (length-drop 2 r) (omega arith)) ∙ ap zeros (sym two))
 
--- 50, 52, 51, 53, and the frame
+-- 50, and the frame
 module _ (size : ℕ) (r : List ℕ) where
-  pub wrong_size : (length r ≡ size → ⊥) → read_of size r ≡ Refused WrongSize
+  pub wrong_size : (length r ≡ size → ⊥) → read_of size r ≡ Err WrongSize
   unfolding read_of
   wrong_size ne = rw (ne_eqb (length r) size ne)
 
-  module _ (whole : length r ≡ size) where
-    pub frame_long : frame_max size < length_of_def r → read_of size r ≡ Refused FrameLong
-    unfolding read_of
-    frame_long h = rw (eq-eqb (length r) size whole, lt-ltb (frame_max size) (length_of_def r) h)
+  pub frame_read : length r ≡ size → length_of_def r ≤ frame_max size → is_zero_def (reserved_of r) ≡ true → is_zero_def (rest_of r) ≡ true
+      → read_of size r ≡ Ok (length_of_def r)
+  unfolding read_of
+  frame_read whole most reserved rest = rw (eq-eqb (length r) size whole, le-ltb (frame_max size) (length_of_def r) most, reserved, rest)
 
-    module _ (most : length_of_def r ≤ frame_max size) where
-      pub not_zero : is_zero_def (reserved_of r) ≡ false → read_of size r ≡ Refused NotZero
-      unfolding read_of
-      not_zero e = rw (eq-eqb (length r) size whole, le-ltb (frame_max size) (length_of_def r) most, e)
-
-      module _ (reserved : is_zero_def (reserved_of r) ≡ true) where
-        pub bad_end : is_zero_def (rest_of r) ≡ false → read_of size r ≡ Refused BadEnd
-        unfolding read_of
-        bad_end e = rw (eq-eqb (length r) size whole, le-ltb (frame_max size) (length_of_def r) most, reserved, e)
-
-        pub frame_read : is_zero_def (rest_of r) ≡ true → read_of size r ≡ Frame (length_of_def r)
-        unfolding read_of
-        frame_read e = rw (eq-eqb (length r) size whole, le-ltb (frame_max size) (length_of_def r) most, reserved, e)
-
--- 50, 52, and the record
-module _ (size : ℕ) (frame slice : List ℕ) where
-  pub write_size : (length slice ≡ size → ⊥) → written size frame slice ≡ NotWritten WrongSize
-  unfolding written
-  write_size ne = rw (ne_eqb (length slice) size ne)
-
-  module _ (whole : length slice ≡ size) where
-    pub write_long : frame_max size < length frame → written size frame slice ≡ NotWritten FrameLong
-    unfolding written
-    write_long h = rw (eq-eqb (length slice) size whole, lt-ltb (frame_max size) (length frame) h)
-
-    pub write_done : length frame ≤ frame_max size → written size frame slice ≡ Done
-    unfolding written
-    write_done h = rw (eq-eqb (length slice) size whole, le-ltb (frame_max size) (length frame) h)
+-- the record
+pub write_done : (size : ℕ) (frame slice : List ℕ) → length slice ≡ size → length frame ≤ frame_max size → written size frame slice ≡ Ok tt
+unfolding written
+write_done size frame slice whole h = rw (eq-eqb (length slice) size whole, le-ltb (frame_max size) (length frame) h)
 
 -- the header's bytes are the lowest four of a length, of which the last two are zero where two bytes count it
 pub lowest : (n : ℕ) → take header_size (bytes 8 n) ≡ bytes header_size n
@@ -142,7 +104,7 @@ module _ (size : ℕ) (frame : List ℕ) (legal : Size size) (fits : length fram
   of_zeros : filled frame (zeros size) ≡ record_of size frame
   of_zeros =
       let left : size - (header_size + length frame) ≡ frame_max size - length frame = omega (arith, legal.least) in
-      rw (counted (length frame) (omega (arith, legal.most)), drop-zeros (header_size + length frame) size, left) (simp append_assoc)
+      rw (counted (length frame) (omega (arith, legal.most)), drop-replicate {X = ℕ} (header_size + length frame) size 0, left) (simp append_assoc)
 
   pub record_length : length (record_of size frame) ≡ size
   record_length = simp (length-append, length-bytes, length-replicate) (omega (arith, legal.least))

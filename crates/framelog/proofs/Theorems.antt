@@ -9,6 +9,8 @@ use native.Mathlib.Omega.{arith}
 use lib.Dec.{ltb, eqb}
 use lib.ListN.{length, take, drop, length-drop, length-replicate, take-append-drop}
 use lib.Seq.{take_at, drop_at, drop-drop, length-take-le}
+use Rattle.std.specs.Prelude.{Result, Ok}
+use Rattle.std.proofs.lemmas.List.{drop-replicate}
 use Rattle.le.specs.Word.{bytes}
 use Rattle.le.proofs.Words.{word_bytes, bytes_word, length-bytes}
 use Rattle.le.proofs.Comparing.{same_true, equal_same}
@@ -17,11 +19,8 @@ use Rattle.framelog.specs.Layout.{header_size, frame_max, length_of_def, reserve
 use Rattle.framelog.specs.Reading.{is_zero_def, read_of, frame_after}
 use Rattle.framelog.specs.Writing.{written, slice_after}
 use Rattle.framelog.specs.Statements.{Size, SizeInUse, WritesEach, ReadsBackAs, ReadsBack, ReadWasWritten}
-use Rattle.framelog.specs.declared.Logged.{Logged}
-use Rattle.framelog.specs.declared.Logged.TheVariants.{Frame}
-use Rattle.framelog.specs.declared.Written.{Written}
-use Rattle.framelog.specs.declared.Written.TheVariants.{Done}
-use Rattle.framelog.proofs.Answers.{drop-zeros, frame_read, write_done, record_length}
+use Rattle.framelog.specs.declared.Reason.{Reason}
+use Rattle.framelog.proofs.Answers.{frame_read, write_done, record_length}
 
 zeros_zero : (n : ℕ) → is_zero_def (zeros n) ≡ true
 zeros_zero n = equal_same (zeros n) (zeros (length (zeros n))) (ap zeros (sym (length-replicate n 0)))
@@ -52,24 +51,24 @@ module _ (size : ℕ) (frame : List ℕ) (legal : Size size) (fits : length fram
       ap (λ (k : ℕ). drop k r) place
       ∙ sym (drop-drop on (header_size + length frame) r)
       ∙ ap (drop on) (sym (drop-drop (length frame) header_size r) ∙ ap (drop (length frame)) behind_header ∙ drop_at frame rest (length frame) refl)
-      ∙ drop-zeros on (frame_max size - length frame)
+      ∙ drop-replicate {X = ℕ} on (frame_max size - length frame) 0
       ∙ ap zeros left
 
   zero_behind : (at : ℕ) → header_size + length frame ≤ at → is_zero_def (drop at r) ≡ true
   zero_behind at past = ap (λ (s : List ℕ). is_zero_def s) (behind_frame at past) ∙ zeros_zero (size - at)
 
-  reads : read_of size r ≡ Frame (length frame)
+  reads : read_of size r ≡ Ok (length frame)
   reads =
       frame_read size r (record_length size frame legal fits) (rw length_is fits)
       (ap (λ (s : List ℕ). is_zero_def (take 2 s)) behind_length ∙ zeros_zero 2)
       (zero_behind (end_of (length_of_def r)) (rw length_is (omega arith)))
-      ∙ ap Frame length_is
+      ∙ ap Ok length_is
 
   reads_as : ReadsBackAs size frame r
   reads_as =
       record {
         read = reads;
-        frame_is = ap (λ (x : Logged). frame_after x r) reads ∙ ap (take (length frame)) behind_header ∙ take_at frame rest (length frame) refl;
+        frame_is = ap (λ (x : Result ℕ Reason). frame_after x r) reads ∙ ap (take (length frame)) behind_header ∙ take_at frame rest (length frame) refl;
         size_is = record_length size frame legal fits;
       }
 
@@ -78,7 +77,7 @@ record Fits (size : ℕ) (frame slice : List ℕ) : Type 0 where
   whole : length slice ≡ size
   fits : length frame ≤ frame_max size
 
-done : (size : ℕ) (frame slice : List ℕ) → written size frame slice ≡ Done → Fits size frame slice
+done : (size : ℕ) (frame slice : List ℕ) → written size frame slice ≡ Ok tt → Fits size frame slice
 unfolding written
 done size frame slice e =
     let by_size = past (not (eqb (length slice) size)) (λ q. apart (cc)) e in
@@ -94,7 +93,7 @@ writes_each = write_done
 pub reads_back : ReadsBack
 reads_back size frame slice legal e =
     let known = done size frame slice e in
-    subst (ReadsBackAs size frame) (sym (ap (λ (w : Written). slice_after w size frame slice) e)) (reads_as size frame legal known.fits)
+    subst (ReadsBackAs size frame) (sym (ap (λ (w : Result (Unit {0}) Reason). slice_after w size frame slice) e)) (reads_as size frame legal known.fits)
 
 -- what is known of a record that is read
 record Good (size : ℕ) (r : List ℕ) (n : ℕ) : Type 0 where
@@ -104,7 +103,7 @@ record Good (size : ℕ) (r : List ℕ) (n : ℕ) : Type 0 where
   rest : is_zero_def (rest_of r) ≡ true
   is : n ≡ length_of_def r
 
-good : (size : ℕ) (r : List ℕ) (n : ℕ) → read_of size r ≡ Frame n → Good size r n
+good : (size : ℕ) (r : List ℕ) (n : ℕ) → read_of size r ≡ Ok n → Good size r n
 unfolding read_of
 good size r n e =
     let by_size = past (not (eqb (length r) size)) (λ q. apart (cc)) e in
@@ -127,7 +126,7 @@ pub read_was_written : ReadWasWritten
 read_was_written size r n legal are e =
     let g = good size r n e in
     let frame = take (length_of_def r) (drop header_size r) in
-    let frame_is : frame_after (read_of size r) r ≡ frame = ap (λ (x : Logged). frame_after x r) e ∙ ap (λ (k : ℕ). take k (drop header_size r)) g.is in
+    let frame_is : frame_after (read_of size r) r ≡ frame = ap (λ (x : Result ℕ Reason). frame_after x r) e ∙ ap (λ (k : ℕ). take k (drop header_size r)) g.is in
     let room : length (drop header_size r) ≡ size - header_size = length-drop header_size r ∙ ap (λ (k : ℕ). k - header_size) g.whole in
     let long : length frame ≡ length_of_def r = length-take-le (length_of_def r) (drop header_size r) (omega (arith, g.most)) in
     let first : take 2 r ≡ bytes 2 (length frame) = sym (bytes_word 2 r are (omega (arith, g.whole, legal.least))) ∙ ap (bytes 2) (sym long) in

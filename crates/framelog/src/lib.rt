@@ -7,8 +7,10 @@ ghost use Rattle.framelog.specs.Helpers.{filled};
 ghost use Rattle.framelog.specs.Reading.{is_zero_def, read_of, frame_after};
 ghost use Rattle.framelog.specs.Writing.{written, slice_after};
 
+use le::Word;
+
 // Why a record is refused.
-#[derive(Clone, Copy)]
+#[derive(Clone, Copy, Debug, PartialEq, Eq)]
 pub enum Reason {
     // 50: the slice is not 260 bytes.
     WrongSize,
@@ -18,19 +20,6 @@ pub enum Reason {
     FrameLong,
     // 53: a byte after the frame is not zero.
     BadEnd,
-}
-
-#[derive(Clone, Copy)]
-pub enum Logged {
-    // The frame's length; it stands from byte 4 on.
-    Frame(usize),
-    Refused(Reason),
-}
-
-#[derive(Clone, Copy)]
-pub enum Written {
-    Done,
-    Refused(Reason),
 }
 
 pub const RECORD_SIZE: usize = 260;
@@ -53,43 +42,39 @@ impl Reason {
     }
 }
 
-// Whether all bytes are zero: a word at a time. The last may be short, since bytes past the end count as 0.
+// Whether all bytes are zero. All are put together by `|`, with no early end, so that the loop is compiled to vectors:
+// `all` is compiled byte by byte.
+#[tactic(auto, using(crate::proofs::Answers::zero_by_or))]
 fn is_zero(s: &[u8]) -> bool
     ensures { result ≡ is_zero_def s.now }
 {
-    let mut at = 0;
-    while at < s.len() {
-        if le::word::u64_at(s, at) != 0 {
-            return false;
-        }
-        at += 8;
-    }
-    true
+    s.iter().fold(0, |all, byte| all | *byte) == 0
 }
 
-// The length of the frame in a record of that size, or the first reason to refuse the record.
-fn read_sized(slice: &[u8], size: usize) -> Logged
+// The length of the frame in a record of that size, or the first reason to refuse the record. The theorems hold for each size.
+#[tactic(auto, unfolding(crate::specs::Reading::read_of), using(crate::proofs::Answers::reserved_zero, crate::proofs::Answers::reserved_not))]
+fn read_sized(slice: &[u8], size: usize) -> Result<usize, Reason>
     requires { header_size ≤ size }
     ensures { result ≡ read_of size slice.now }
 {
     if slice.len() != size {
-        return Logged::Refused(Reason::WrongSize);
+        return Err(Reason::WrongSize);
     }
-    let n = le::word::u16_at(slice, 0) as usize;
+    let n = usize::from(u16::at(slice, 0));
     if size - HEADER_SIZE < n {
-        return Logged::Refused(Reason::FrameLong);
+        return Err(Reason::FrameLong);
     }
-    if le::word::u16_at(slice, 2) != 0 {
-        return Logged::Refused(Reason::NotZero);
+    if u16::at(slice, 2) != 0 {
+        return Err(Reason::NotZero);
     }
     if !is_zero(le::tail(slice, HEADER_SIZE + n)) {
-        return Logged::Refused(Reason::BadEnd);
+        return Err(Reason::BadEnd);
     }
-    Logged::Frame(n)
+    Ok(n)
 }
 
 // The same of a record of 260 bytes.
-pub fn read(slice: &[u8]) -> Logged
+pub fn read(slice: &[u8]) -> Result<usize, Reason>
     ensures { result ≡ read_of record_size slice.now }
 {
     read_sized(slice, RECORD_SIZE)
@@ -106,10 +91,7 @@ pub fn cut(slice: &[u8], n: usize) -> &[u8]
 pub fn frame(slice: &[u8]) -> &[u8]
     ensures { result.now ≡ frame_after (read_of record_size slice.now) slice.now }
 {
-    match read(slice) {
-        Logged::Frame(n) => cut(slice, n),
-        Logged::Refused(_) => cut(slice, 0),
-    }
+    cut(slice, read(slice).unwrap_or(0))
 }
 
 // Lays a frame's length in the header's four bytes, of which the last two are the zeros, and the frame behind them.
@@ -117,24 +99,26 @@ fn fill(frame: &[u8], built: &mut [u8])
     requires { header_size + length frame.now ≤ length built.old }
     ensures { built.new ≡ filled frame.now built.old }
 {
-    let n = le::word::u64_bytes(frame.len() as u64);
+    let n = (frame.len() as u64).bytes();
     le::copy(le::head(&n, HEADER_SIZE), built);
     le::copy(frame, &mut built[HEADER_SIZE..]);
 }
 
 // Writes the record of a frame over all of the slice, or leaves the slice as it is.
-pub fn write(frame: &[u8], slice: &mut [u8]) -> Written
+#[tactic(auto, unfolding(crate::specs::Writing::written))]
+pub fn write(frame: &[u8], slice: &mut [u8]) -> Result<(), Reason>
     ensures value { result ≡ written record_size frame.now slice.old }
     ensures slice_after { slice.new ≡ slice_after result record_size frame.now slice.old }
 {
     if slice.len() != RECORD_SIZE {
-        return Written::Refused(Reason::WrongSize);
+        return Err(Reason::WrongSize);
     }
     if FRAME_MAX < frame.len() {
-        return Written::Refused(Reason::FrameLong);
+        return Err(Reason::FrameLong);
     }
+    // Built from zeros, filled, and copied out: the scope names this form.
     let mut built = [0u8; 260];
     fill(frame, &mut built);
     le::copy(&built, slice);
-    Written::Done
+    Ok(())
 }

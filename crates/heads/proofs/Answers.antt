@@ -129,9 +129,6 @@ module _ (h : Header) where
   pub seat_later : (ps : List State) → is_first h ≡ false → (seat_of h ps ≡ place_of h.words.sender ps) × (left_for h ps ≡ ps)
   seat_later ps e = rw e (refl, refl)
 
-  -- without a message there are as many places, and each is consistent as before
-  pub left_long : (ps : List State) → length (left_for h ps) ≡ length ps
-  left_long ps = either (λ (qs : List State). length qs ≡ length ps) (is_first h) (length_without h.words.sender ps) refl
-
+  -- without a message each place is consistent as before
   pub left_consistent : (ps : List State) → all_consistent ps ≡ true → all_consistent (left_for h ps) ≡ true
   left_consistent ps ok = either (λ (qs : List State). all_consistent qs ≡ true) (is_first h) (consistent_without h.words.sender ps ok) ok

@@ -8,5 +8,4 @@ pub mod Agreeing
 pub mod Alone
 pub mod Demand
 pub mod Rows
-pub mod Walking
 pub mod Carried

@@ -1,18 +1,22 @@
 -- The laws of places kept as numbers: which state eight numbers are, what stands at a place, and what a state kept at a place makes of all numbers.
 -- Assumes nothing.
+use Rattle.std.proofs.lemmas.Bool.{and_parts}
 use Prim.Native.Nat.{ℕ, zero, suc, ◌+◌, ◌*◌, ◌≤◌, ◌<◌}
-use mathlib.Core.Bool.{Bool, true, false, cond}
+use mathlib.Core.Bool.{Bool, true, false, cond, not, ◌&&◌}
 use mathlib.Core.Path.{◌≡◌, refl, sym, ap, ap₂, ◌∙◌}
 use mathlib.Core.List.{List, [], ◌∷◌, ◌++◌, map, append_assoc}
 use borrow.Author.Tests.{eq-eqb, ne_eqb, eqb-true, eqb-false, lt-ltb, le-ltb, ltb-true, ltb-false}
-use native.Mathlib.Numerals.{add-one}
 use native.Mathlib.Omega.{arith}
 use lib.Bits.{bit_or, or_add_and, and_le_l, and_le_r}
 use lib.Dec.{eqb, ltb}
 use lib.ListN.{length, get_or, take, drop, set, replicate, length-append, length-take, length-drop, replicate-append-replicate, take-append-drop, drop_of_length-le}
-use lib.Seq.{take-suc, take-suc-set, take_at, drop_at, take-add, drop-drop, drop-cons, get_or-take, get_or-drop}
+use lib.Seq.{take_at, drop_at, take-add, drop-drop, drop-cons}
+use Rattle.std.specs.Simd.{first_chunks}
+use Rattle.std.specs.List.{list_all, position, position_or_len}
+use Rattle.std.specs.Prelude.{Option, Some, None}
+use Rattle.std.proofs.lemmas.List.{length-map}
 use Rattle.le.specs.Compare.{same}
-use Rattle.le.proofs.Tests.{never, both}
+use Rattle.le.proofs.Tests.{never}
 use Rattle.le.proofs.Comparing.{same_true, equal_same, other_list}
 use Rattle.frame.specs.Layout.{words_at}
 use Rattle.reassembly.specs.Step.{consistent}
@@ -20,12 +24,12 @@ use Rattle.reassembly.specs.declared.Progress.{Progress}
 use Rattle.reassembly.specs.declared.State.{State}
 use Rattle.reassembly.specs.declared.State.TheVariants.{Fresh, Open}
 use Rattle.reassembly.proofs.Answers.{no_next}
-use Rattle.heads.specs.Places.{place_count, place_size, is_free_def, all_consistent}
+use Rattle.heads.specs.Places.{place_count, place_size, is_free_def, is_of_def, lowest, none, all_consistent, is_alone_def}
 use Rattle.heads.specs.Numbers.{row_size, number_count, byte_max, row_of, no_state_def, open_in_def, state_in_def, rows, places_in, numbers_of}
 use Rattle.heads.specs.Step.{Stepped}
 use Rattle.heads.specs.Helpers.{relaid}
 use Rattle.heads.specs.declared.Verdict.{Verdict}
-use Rattle.heads.proofs.Seats.{each_consistent}
+use Rattle.heads.proofs.Seats.{position_some, position_none}
 
 -- ---- the numbers of one place
 
@@ -112,6 +116,57 @@ module _ (row : List ℕ) (ok : consistent (state_in_def row) place_size ≡ tru
           ∙ ap (λ (n : ℕ). n ∷ get_or row 1 0 ∷ get_or row 2 0 ∷ get_or row 3 0 ∷ get_or row 4 0 ∷ get_or row 5 0 ∷ get_or row 6 0 ∷ get_or row 7 0 ∷ []) (sym known.1)
           ∙ sym (eight row len)
 
+-- ---- rows, the numbers of places one behind another
+
+pub rows_chunks : (n : ℕ) (b : List ℕ) → rows n b ≡ first_chunks row_size n b
+unfolding rows
+rows_chunks zero b = refl
+rows_chunks (suc n) b = ap (λ (l : List (List ℕ)). take row_size b ∷ l) (rows_chunks n (drop row_size b))
+
+pub length_rows : (n : ℕ) (b : List ℕ) → length (rows n b) ≡ n
+unfolding rows
+length_rows zero b = refl
+length_rows (suc n) b = ap suc (length_rows n (drop row_size b))
+
+pub state_of_row : (rs : List (List ℕ)) (k : ℕ) → k < length rs → get_or (map state_in_def rs) k Fresh ≡ state_in_def (get_or rs k [])
+state_of_row [] k h = absurd (omega arith)
+state_of_row (r ∷ rs) zero h = refl
+state_of_row (r ∷ rs) (suc k) h = state_of_row rs k (omega arith)
+
+pub all_rows : (rs : List (List ℕ)) → list_all (λ (r : List ℕ). consistent (state_in_def r) place_size) rs ≡ all_consistent (map state_in_def rs)
+unfolding all_consistent
+all_rows [] = refl
+all_rows (r ∷ rs) = ap (λ (t : Bool). consistent (state_in_def r) place_size && t) (all_rows rs)
+
+-- the sender's place is told by the first and the fourth number
+pub row_sender : (row : List ℕ) (sender : ℕ) → consistent (state_in_def row) place_size ≡ true
+    → not (eqb (get_or row 0 0) 0) && eqb (get_or row 3 0) sender ≡ is_of_def sender (state_in_def row)
+row_sender row sender ok = go (eqb (get_or row 0 0) 0) refl
+  where
+    go : (zero : Bool) → eqb (get_or row 0 0) 0 ≡ zero → not zero && eqb (get_or row 3 0) sender ≡ is_of_def sender (state_in_def row)
+    go true z = sym (ap (is_of_def sender) (row_fresh row ok (eqb-true (get_or row 0 0) 0 z)).1)
+    go false z = sym (ap (is_of_def sender) (row_spelt row ok (eqb-false (get_or row 0 0) 0 z)).0)
+
+-- so is whether it has another: a free place is alone, and an open one where no sender behind it is its own
+module _ (row : List ℕ) (ok : consistent (state_in_def row) place_size ≡ true) (ps : List State) where
+  pub alone_free : get_or row 0 0 ≡ 0 → is_alone_def (state_in_def row) ps ≡ true
+  alone_free free = ap (λ (s : State). is_alone_def s ps) (row_fresh row ok free).1
+
+  pub alone_open : (get_or row 0 0 ≡ 0 → ⊥) → is_alone_def (state_in_def row) ps ≡ none (is_of_def (get_or row 3 0)) ps
+  alone_open taken = ap (λ (s : State). is_alone_def s ps) (row_spelt row ok taken).0
+
+-- where a test of the numbers tells a kind, the first row that passes is the first place of the kind
+module _ (P : State → Bool) (test : List ℕ → Bool) (tells : (row : List ℕ) → consistent (state_in_def row) place_size ≡ true → test row ≡ P (state_in_def row)) where
+  walk_told : (rs : List (List ℕ)) → all_consistent (map state_in_def rs) ≡ true → position_or_len test rs ≡ position_or_len P (map state_in_def rs)
+  unfolding all_consistent
+  walk_told [] e = refl
+  walk_told (r ∷ rs) e =
+      let oks = and_parts (consistent (state_in_def r) place_size) _ e in
+      ap₂ (λ (t : Bool) (n : ℕ). cond (not t) (1 + n) 0) (tells r oks.0) (walk_told rs oks.1)
+
+  pub position_told : (rs : List (List ℕ)) → all_consistent (map state_in_def rs) ≡ true → position test rs ≡ position P (map state_in_def rs)
+  position_told rs e = ap₂ (λ (n m : ℕ). cond (ltb n m) (Some n) None) (walk_told rs e) (sym (length-map rs state_in_def))
+
 -- a state that is kept is read again, its sequence number being a byte
 abbrev pub Narrow : State → Type 0
 Narrow Fresh = Unit {0}
@@ -128,24 +183,10 @@ length_row (Open p) = refl
 
 -- ---- the numbers of all places
 
--- a place is what its eight numbers are
-pub place_at : (n k : ℕ) (b : List ℕ) → k < n → get_or (map state_in_def (rows n b)) k Fresh ≡ state_in_def (take row_size (drop (row_size * k) b))
-unfolding rows
-place_at zero k b h = absurd (omega arith)
-place_at (suc n) zero b h = refl
-place_at (suc n) (suc k) b h =
-    let on : row_size * suc k ≡ row_size + row_size * k = omega arith in
-    place_at n k (drop row_size b) (omega arith)
-    ∙ ap (λ (l : List ℕ). state_in_def (take row_size l)) (drop-drop (row_size * k) row_size b ∙ ap (λ (m : ℕ). drop m b) (sym on))
-
 pub length_places : (n : ℕ) (b : List ℕ) → length (map state_in_def (rows n b)) ≡ n
 unfolding rows
 length_places zero b = refl
 length_places (suc n) b = ap suc (length_places n (drop row_size b))
-
--- a number of place k
-pub number_at : (k i : ℕ) (b : List ℕ) → i < row_size → get_or (take row_size (drop (row_size * k) b)) i 0 ≡ get_or b (row_size * k + i) 0
-number_at k i b h = get_or-take row_size (drop (row_size * k) b) i 0 h ∙ get_or-drop (row_size * k) b i 0
 
 -- eight numbers in place of those of place k
 abbrev pub laid : ℕ → List ℕ → List ℕ → List ℕ
@@ -175,6 +216,19 @@ places_laid (suc n) (suc k) row b h long len =
     ap₂ (λ (p q : List ℕ). state_in_def p ∷ map state_in_def (rows n q)) behind.0 behind.1
     ∙ ap (λ (l : List State). state_in_def (take row_size b) ∷ l) (places_laid n k row (drop row_size b) (omega arith) (simp length-drop (omega arith)) len)
 
+-- what a walk over all eight rows finds
+module _ (P : State → Bool) (b : List ℕ) (rs : List (List ℕ)) (all : rs ≡ rows place_count b) (found : Option ℕ) (is : found ≡ position P (map state_in_def rs)) where
+  walk_of_all : position P (places_in b) ≡ found
+  walk_of_all = sym (is ∙ ap (λ (l : List (List ℕ)). position P (map state_in_def l)) all)
+
+  pub found_place : (k : ℕ) → found ≡ Some k → (k ≡ lowest P (places_in b)) × (k < place_count)
+  found_place k some =
+      let known = position_some P (places_in b) k (walk_of_all ∙ some) in
+      (known.0, omega (arith, length_places place_count b, known.1))
+
+  pub found_none : found ≡ None → length (places_in b) ≤ lowest P (places_in b)
+  found_none none = position_none P (places_in b) (walk_of_all ∙ none)
+
 -- ---- the numbers that places are kept as
 
 -- the first eight of them, and those behind
@@ -196,7 +250,7 @@ all_kept zero b h e = sym (no_length b (omega arith))
     no_length [] e = refl
     no_length (x ∷ l) e = absurd (omega arith)
 all_kept (suc n) b h e =
-    let oks = both (consistent (state_in_def (take row_size b)) place_size) _ e in
+    let oks = and_parts (consistent (state_in_def (take row_size b)) place_size) _ e in
     ap₂ (λ (x y : List ℕ). x ++ y) (row_kept (take row_size b) oks.0 (simp length-take (omega arith))) (all_kept n (drop row_size b) (simp length-drop (omega arith)) oks.1)
     ∙ take-append-drop row_size b
 
@@ -234,32 +288,7 @@ pub kept_at : (b : List ℕ) (k : ℕ) (st : State) → length b ≡ number_coun
 kept_at b k st len ok h =
     ap (relaid k st) (sym (all_kept place_count b (sym len) ok)) ∙ laid_numbers (places_in b) k st (omega (arith, length_places place_count b))
 
--- ---- what the code reads of place k
-
-module _ (k : ℕ) (b : List ℕ) (inside : k < place_count) where
-  abbrev row : List ℕ
-  row = take row_size (drop (row_size * k) b)
-
-  pub at_place : get_or (places_in b) k Fresh ≡ state_in_def row
-  at_place = place_at place_count k b inside
-
-  first_number : get_or row 0 0 ≡ get_or b (row_size * k) 0
-  first_number = number_at k 0 b (omega arith) ∙ ap (λ (n : ℕ). get_or b n 0) (let n : row_size * k + 0 ≡ row_size * k = omega arith in n)
-
-  module _ (oks : all_consistent (places_in b) ≡ true) where
-    row_ok : consistent (state_in_def row) place_size ≡ true
-    row_ok = ap (λ (s : State). consistent s place_size) (sym at_place) ∙ each_consistent (places_in b) oks k
-
-    pub free_at : is_free_def (get_or (places_in b) k Fresh) ≡ eqb (get_or b (row_size * k) 0) 0
-    free_at = ap is_free_def at_place ∙ row_free row row_ok ∙ ap (λ (n : ℕ). eqb n 0) first_number
-
-    pub fresh_at : get_or b (row_size * k) 0 ≡ 0 → get_or (places_in b) k Fresh ≡ Fresh
-    fresh_at e = at_place ∙ (row_fresh row row_ok (first_number ∙ e)).1
-
-    pub open_at : (get_or b (row_size * k) 0 ≡ 0 → ⊥) → (p : Progress) × (get_or (places_in b) k Fresh ≡ Open p) × (p.words.sender ≡ get_or b (row_size * k + 3) 0)
-    open_at taken = (progress_in row, at_place ∙ (row_spelt row row_ok (λ z. taken (sym first_number ∙ z))).0, number_at k 3 b (omega arith))
-
--- ---- what the loops over numbers need
+-- ---- what the code needs
 
 -- numbers that are joined are 0 exactly where each is
 pub or_none : (a b : ℕ) → bit_or a b ≡ 0 → (a ≡ 0) × (b ≡ 0)
@@ -282,14 +311,6 @@ module _ (row : List ℕ) where
   pub one_not_zero : (joined row ≡ 0 → ⊥) → same row (row_of Fresh) ≡ false
   one_not_zero differ = other_list row (row_of Fresh) (λ e. differ (ap joined e))
 
--- one number more is laid
-pub laid_on : (l v : List ℕ) (k : ℕ) → k < length l → k < length v → take k l ≡ take k v → take (k + 1) (set l k (get_or v k 0)) ≡ take (k + 1) v
-laid_on l v k h i e =
-    rw (add-one k) (take-suc-set l k (get_or v k 0) h ∙ ap (λ (t : List ℕ). t ++ (get_or v k 0 ∷ [])) e ∙ sym (take-suc v k 0 i))
-
-pub zeros_on : (l : List ℕ) (k : ℕ) → k < length l → take k l ≡ replicate k 0 → take (k + 1) (set l k 0) ≡ replicate (k + 1) 0
-zeros_on l k h e = rw (add-one k) (take-suc-set l k 0 h) ∙ ap (λ (t : List ℕ). t ++ (0 ∷ [])) e ∙ replicate-append-replicate k 1 0
-
 -- a verdict, numbers and a buffer that are those of a call's law are those of the call
 pub as_in : (st law : Stepped) (verdict : Verdict) (numbers buffer : List ℕ)
     → st ≡ law
@@ -297,5 +318,5 @@ pub as_in : (st law : Stepped) (verdict : Verdict) (numbers buffer : List ℕ)
     → numbers ≡ numbers_of law.places
     → places_in numbers ≡ law.places
     → buffer ≡ law.buffer
-    → (verdict ≡ st.verdict) × (numbers ≡ numbers_of st.places) × (places_in numbers ≡ st.places) × (buffer ≡ st.buffer)
-as_in st law verdict numbers buffer e v n p b = rw e (v, n, p, b)
+    → record { value : verdict ≡ st.verdict; places_after : numbers ≡ numbers_of st.places; read_back : places_in numbers ≡ st.places; buf_after : buffer ≡ st.buffer }
+as_in st law verdict numbers buffer e v n p b = rw e (record { value = v; places_after = n; read_back = p; buf_after = b })

@@ -1,7 +1,8 @@
 -- The laws of the places: the lowest of a kind, a sender's own, which are legal, and the bytes of each.
 -- Assumes nothing.
+use Rattle.std.proofs.lemmas.Bool.{and_parts}
 use Prim.Native.Nat.{ℕ, zero, suc, ◌+◌, ◌-◌, ◌*◌, ◌≤◌, ◌<◌}
-use mathlib.Core.Bool.{Bool, true, false, ◌&&◌}
+use mathlib.Core.Bool.{Bool, true, false, cond, not, ◌&&◌}
 use mathlib.Core.Path.{◌≡◌, refl, sym, ap, ◌∙◌}
 use mathlib.Core.List.{List, [], ◌∷◌, ◌++◌, append_assoc}
 use native.Mathlib.Nat.{suc_inj}
@@ -10,12 +11,15 @@ use borrow.Author.Tests.{le-leb, leb-true, eq-eqb, ne_eqb, eqb-true, eqb-false, 
 use lib.Dec.{eqb, leb, ltb}
 use lib.ListN.{length, get_or, take, drop, set, replicate, length-append, length-take, length-drop, length-set, take-append-drop, get_or-eq_default}
 use lib.Seq.{take-append-le, drop-append-le, take_at, drop_at, take-take, drop-drop, take-add, set_out, get_or-set_same, get_or-set_other}
-use Rattle.le.proofs.Tests.{never, both}
+use Rattle.std.specs.Prelude.{Option, Some, None}
+use Rattle.std.specs.List.{position, position_or_len}
+use Rattle.std.specs.Option.{is_some}
+use Rattle.le.proofs.Tests.{never}
 use Rattle.reassembly.specs.Step.{consistent, landed}
 use Rattle.reassembly.specs.declared.State.{State}
 use Rattle.reassembly.specs.declared.State.TheVariants.{Fresh, Open}
 use Rattle.reassembly.proofs.Answers.{fresh}
-use Rattle.heads.specs.Places.{place_size, buffer_min, part, with_part, is_free_def, is_of_def, lowest, place_of, open_of_def, without, all_consistent, is_alone_def, distinct, legal}
+use Rattle.heads.specs.Places.{place_size, buffer_min, part, with_part, is_free_def, is_of_def, lowest, none, place_of, open_of_def, without, all_consistent, is_alone_def, distinct, legal}
 
 -- ---- the lowest place of a kind
 
@@ -51,6 +55,47 @@ module _ (P : State → Bool) where
       go true e ih j h = absurd (let l : j < 0 = rw e at h in omega arith)
       go false e ih zero h = e
       go false e ih (suc j) h = ih j (let l : suc j < suc (lowest P ps) = rw e at h in omega arith)
+
+  -- it is std's first position that passes;
+  lowest_walk : (ps : List State) → position_or_len P ps ≡ lowest P ps
+  unfolding lowest
+  lowest_walk [] = refl
+  lowest_walk (p ∷ ps) = go (P p) (lowest_walk ps)
+    where
+      go : (t : Bool) → position_or_len P ps ≡ lowest P ps → cond (not t) (1 + position_or_len P ps) 0 ≡ cond t 0 (suc (lowest P ps))
+      go true e = refl
+      go false e = omega arith
+
+  position_is : (ps : List State) → position P ps ≡ cond (ltb (lowest P ps) (length ps)) (Some (lowest P ps)) None
+  position_is ps = ap (λ (n : ℕ). cond (ltb n (length ps)) (Some n) None) (lowest_walk ps)
+
+  pub position_some : (ps : List State) (k : ℕ) → position P ps ≡ Some k → (k ≡ lowest P ps) × (k < length ps)
+  position_some ps k e = go (ltb (lowest P ps) (length ps)) refl (sym (position_is ps) ∙ e)
+    where
+      go : (t : Bool) → ltb (lowest P ps) (length ps) ≡ t → cond t (Some (lowest P ps)) None ≡ Some k → (k ≡ lowest P ps) × (k < length ps)
+      go true less some =
+          let same : k ≡ lowest P ps = cc in
+          let inside = ltb-true (lowest P ps) (length ps) less in
+          (same, omega arith)
+      go false less some = absurd (cc)
+
+  pub position_none : (ps : List State) → position P ps ≡ None → length ps ≤ lowest P ps
+  position_none ps e = go (ltb (lowest P ps) (length ps)) refl (sym (position_is ps) ∙ e)
+    where
+      go : (t : Bool) → ltb (lowest P ps) (length ps) ≡ t → cond t (Some (lowest P ps)) None ≡ None → length ps ≤ lowest P ps
+      go true less none = absurd (cc)
+      go false less none = ltb-false (lowest P ps) (length ps) less
+
+  pub none_walk : (ps : List State) (found : Option ℕ) → found ≡ position P ps → none P ps ≡ not (is_some found)
+  none_walk ps found e = go (ltb (lowest P ps) (length ps)) refl (e ∙ position_is ps)
+    where
+      go : (t : Bool) → ltb (lowest P ps) (length ps) ≡ t → found ≡ cond t (Some (lowest P ps)) None → none P ps ≡ not (is_some found)
+      go true less is =
+          let inside = ltb-true (lowest P ps) (length ps) less in
+          ne_eqb (lowest P ps) (length ps) (λ same. omega arith) ∙ ap (λ (f : Option ℕ). not (is_some f)) (sym is)
+      go false less is =
+          let past = ltb-false (lowest P ps) (length ps) less in
+          eq-eqb (lowest P ps) (length ps) (omega (arith, lowest_le ps)) ∙ ap (λ (f : Option ℕ). not (is_some f)) (sym is)
 
   -- it is not behind one of that kind;
   pub lowest_found : (ps : List State) (k : ℕ) → P (get_or ps k Fresh) ≡ true → lowest P ps ≤ k
@@ -228,8 +273,8 @@ module _ (s : ℕ) (ps : List State) (k : ℕ) (x : State) (inside : k < length 
 pub each_consistent : (ps : List State) → all_consistent ps ≡ true → (k : ℕ) → consistent (get_or ps k Fresh) place_size ≡ true
 unfolding all_consistent
 each_consistent [] e k = fresh place_size
-each_consistent (p ∷ ps) e zero = (both (consistent p place_size) (all_consistent ps) e).0
-each_consistent (p ∷ ps) e (suc k) = each_consistent ps (both (consistent p place_size) (all_consistent ps) e).1 k
+each_consistent (p ∷ ps) e zero = (and_parts (consistent p place_size) (all_consistent ps) e).0
+each_consistent (p ∷ ps) e (suc k) = each_consistent ps (and_parts (consistent p place_size) (all_consistent ps) e).1 k
 
 pub consistent_each : (ps : List State) → ((k : ℕ) → consistent (get_or ps k Fresh) place_size ≡ true) → all_consistent ps ≡ true
 unfolding all_consistent
@@ -260,9 +305,9 @@ pub one_place : (ps : List State) → distinct ps ≡ true → (s j k : ℕ) →
 unfolding distinct
 one_place [] e s j k a b = never (sym a)
 one_place (p ∷ ps) e s zero zero a b = refl
-one_place (p ∷ ps) e s zero (suc k) a b = absurd (alone p ps s k (both (is_alone_def p ps) (distinct ps) e).0 a b)
-one_place (p ∷ ps) e s (suc j) zero a b = absurd (alone p ps s j (both (is_alone_def p ps) (distinct ps) e).0 b a)
-one_place (p ∷ ps) e s (suc j) (suc k) a b = ap suc (one_place ps (both (is_alone_def p ps) (distinct ps) e).1 s j k a b)
+one_place (p ∷ ps) e s zero (suc k) a b = absurd (alone p ps s k (and_parts (is_alone_def p ps) (distinct ps) e).0 a b)
+one_place (p ∷ ps) e s (suc j) zero a b = absurd (alone p ps s j (and_parts (is_alone_def p ps) (distinct ps) e).0 b a)
+one_place (p ∷ ps) e s (suc j) (suc k) a b = ap suc (one_place ps (and_parts (is_alone_def p ps) (distinct ps) e).1 s j k a b)
 
 is_alone : (p : State) (ps : List State) → ((s k : ℕ) → is_of_def s p ≡ true → is_of_def s (get_or ps k Fresh) ≡ true → ⊥) → is_alone_def p ps ≡ true
 is_alone Fresh ps none = refl
@@ -328,8 +373,8 @@ pub record Known (ps : List State) (room : ℕ) : Type 0 where
 pub legal_known : (ps : List State) (room : ℕ) → legal ps room ≡ true → Known ps room
 unfolding legal
 legal_known ps room e =
-    let a = both (leb buffer_min room) (all_consistent ps && distinct ps) e in
-    let b = both (all_consistent ps) (distinct ps) a.1 in
+    let a = and_parts (leb buffer_min room) (all_consistent ps && distinct ps) e in
+    let b = and_parts (all_consistent ps) (distinct ps) a.1 in
     record { room_enough = leb-true buffer_min room a.0; places_consistent = b.0; all_distinct = b.1 }
 
 pub known_legal : (ps : List State) (room : ℕ) → Known ps room → legal ps room ≡ true

@@ -5,9 +5,9 @@ use Rattle.frame.specs.declared.Header.{Header}
 use Rattle.frame.specs.declared.read.Parsed.{Parsed}
 use Rattle.reassembly.specs.Step.{consistent, is_first, received}
 use Rattle.reassembly.specs.declared.State.{State}
-use Rattle.reassembly.specs.declared.Reason.TheVariants.{Unread, NothingOpen}
+use Rattle.reassembly.specs.declared.Reason.TheVariants.{NothingOpen}
 use Rattle.heads.specs.declared.Reason.{Reason}
-use Rattle.heads.specs.declared.Reason.TheVariants.{Step, NoPlace}
+use Rattle.heads.specs.declared.Reason.TheVariants.{Step}
 use Rattle.heads.specs.Places.{place_size, is_free_def, lowest, place_of, without}
 use Rattle.heads.specs.Step.{crowded}
 use Rattle.heads.specs.Numbers.{row_size, row_of}
@@ -24,11 +24,6 @@ Keeps h piece =
     → length buffer ≡ place_size
     → consistent state place_size ≡ true
     → consistent (received (Parsed.Header h) piece state buffer).answer.state place_size ≡ true
-
--- the reason of a frame that does not parse; of one that does, any
-abbrev pub unread_of : Parsed → Reason
-unread_of (Parsed.Refused reason) = Step (Unread reason)
-unread_of (Parsed.Header h) = NoPlace
 
 -- the place of a frame with this header, and the places then: with Index 0 without what its sender has open
 abbrev pub seat_of : Header → List State → ℕ

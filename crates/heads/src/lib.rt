@@ -4,17 +4,18 @@
 
 mod numbers;
 
-ghost use Rattle.std.specs.Prelude.{◌≡◌, true, ◌≤◌, ◌<◌, length};
+ghost use Rattle.std.specs.Prelude.{◌≡◌, true, ◌≤◌, length, get_or, MatchOption};
 ghost use Rattle.frame.specs.declared.read.Parsed.TheVariants as Parsed;
-ghost use Rattle.reassembly.specs.Step.{consistent, received};
-ghost use Rattle.heads.specs.Places.{place_count, place_size, buffer_min, part, all_consistent, legal};
+ghost use Rattle.reassembly.specs.Step.{received};
+ghost use Rattle.reassembly.specs.declared.State.TheVariants.{Fresh};
+ghost use Rattle.heads.specs.Places.{place_count, buffer_min, part, all_consistent, legal};
 ghost use Rattle.heads.specs.Step.{number_of, placed, seated, crowded, routed, step_of};
-ghost use Rattle.heads.specs.Numbers.{number_count, places_in, numbers_of};
-ghost use Rattle.heads.specs.Helpers.{relaid, Keeps, unread_of, seat_of, left_for, turned_away};
+ghost use Rattle.heads.specs.Numbers.{places_in, numbers_of};
+ghost use Rattle.heads.specs.Helpers.{relaid, Keeps, seat_of, left_for, turned_away};
 
 use frame::read::Parsed;
 use frame::{Header, Words};
-use reassembly::State;
+use numbers::{Places, Seat};
 
 // How many messages can be open at once, one a sender.
 pub const PLACE_COUNT: usize = 8;
@@ -22,9 +23,11 @@ pub const PLACE_COUNT: usize = 8;
 pub const PLACE_SIZE: usize = 4096;
 // The least bytes of a buffer.
 pub const BUFFER_MIN: usize = 32768;
+// How many numbers the places are kept as.
+pub const NUMBER_COUNT: usize = 64;
 
 // Why a frame is refused.
-#[derive(Clone, Copy)]
+#[derive(Clone, Copy, Debug, PartialEq, Eq)]
 pub enum Reason {
     // 1 to 11: as in the crate `reassembly`, of the sender's own message.
     Step(reassembly::Reason),
@@ -32,7 +35,8 @@ pub enum Reason {
     NoPlace,
 }
 
-#[derive(Clone, Copy)]
+// What a call answers: the scope names this form.
+#[derive(Clone, Copy, Debug, PartialEq, Eq)]
 pub enum Verdict {
     // More of the message is wanted.
     More,
@@ -64,30 +68,31 @@ fn place(verdict: reassembly::Verdict, k: usize) -> Verdict
     }
 }
 
-// Takes a frame in at place k, which has that state.
+// Takes a frame in at its place.
 fn take_in(
-    k: usize,
-    state: State,
+    seat: Seat,
     h: Header,
     piece: &[u8],
-    places: &mut [u32],
+    places: &mut [u32; NUMBER_COUNT],
     buf: &mut [u8],
 ) -> Verdict
-    requires places_len { (length places.old ≡ number_count) × (k < place_count) × (buffer_min ≤ length buf.old) }
-    requires place_size_value { consistent state place_size ≡ true }
+    requires room_enough { buffer_min ≤ length buf.old }
     requires keeps { Keeps h piece.now }
-    ensures value { result ≡ (seated k state h piece.now (places_in places.old) buf.old).verdict }
-    ensures places_after { places.new ≡ relaid k (received (Parsed.Header h) piece.now state (part k buf.old)).answer.state places.old }
-    ensures places_after_2 { places_in places.new ≡ (seated k state h piece.now (places_in places.old) buf.old).places }
-    ensures buf_after { buf.new ≡ (seated k state h piece.now (places_in places.old) buf.old).buffer }
+    ensures value { result ≡ (seated seat.k seat.state h piece.now (places_in places.old) buf.old).verdict }
+    ensures places_after { places.new ≡ relaid seat.k (received (Parsed.Header h) piece.now seat.state (part seat.k buf.old)).answer.state places.old }
+    ensures read_back { places_in places.new ≡ (seated seat.k seat.state h piece.now (places_in places.old) buf.old).places }
+    ensures buf_after { buf.new ≡ (seated seat.k seat.state h piece.now (places_in places.old) buf.old).buffer }
 {
+    let k = seat.k;
     let start = PLACE_SIZE * k;
     let end = start + PLACE_SIZE;
-    let answer = reassembly::receive(Parsed::Header(h), piece, state, &mut buf[start..end]);
-    let verdict = answer.verdict;
-    let next = answer.state;
-    numbers::put(next, k, places);
-    place(verdict, k)
+    let answer = reassembly::receive(Parsed::Header(h), piece, seat.state, &mut buf[start..end]);
+    let next = Seat {
+        k,
+        state: answer.state,
+    };
+    next.put(places);
+    place(answer.verdict, k)
 }
 
 // Why a frame with Index 0 is refused where no place is free.
@@ -108,75 +113,66 @@ fn crowd(size: usize, total: u32) -> Reason
     Reason::NoPlace
 }
 
-// The place of a frame, or 8. For a frame with Index 0 its sender's own message is dropped first; then it is the lowest
-// free place, and for any other its sender's own.
-fn find_place(h: Header, places: &mut [u32]) -> usize
-    requires { (length places.old ≡ number_count) × (all_consistent (places_in places.old) ≡ true) }
-    ensures value { result ≡ seat_of h (places_in places.old) }
+// The place of a frame, with what is there. For a frame with Index 0 its sender's own message is dropped first; then it
+// is the lowest free place, and for any other its sender's own.
+fn find_place(h: Header, places: &mut [u32; NUMBER_COUNT]) -> Option<Seat>
+    requires { all_consistent (places_in places.old) ≡ true }
+    ensures value { MatchOption result (place_count ≤ seat_of h (places_in places.old)) (λ s. (s.k ≡ seat_of h (places_in places.old)) × (s.state ≡ get_or (left_for h (places_in places.old)) s.k Fresh)) }
     ensures places_after { places.new ≡ numbers_of (left_for h (places_in places.old)) }
-    ensures places_after_2 { places_in places.new ≡ left_for h (places_in places.old) }
+    ensures read_back { places_in places.new ≡ left_for h (places_in places.old) }
 {
-    let words = h.words;
+    let sender = h.words.sender;
     if h.index == 0 {
-        numbers::drop_own(words.sender, places);
-        return numbers::lowest_free(places);
+        numbers::drop_own(sender, places);
+        let left = Places::of(places);
+        return Some(left.seat(left.lowest_free()?));
     }
-    numbers::place_from(places, words.sender, 0)
+    let all = Places::of(places);
+    Some(all.seat(all.place_of(sender)?))
 }
 
 // Why a frame that has no place is refused.
 fn turn_away(h: Header, size: usize) -> Reason
     ensures { result ≡ turned_away h size }
 {
-    let words = h.words;
     if h.index == 0 {
-        return crowd(size, words.total);
+        return crowd(size, h.words.total);
     }
     Reason::Step(reassembly::Reason::NothingOpen)
 }
 
 // A frame that is read, where the places are legal. There is one call of `take_in`, so that it is compiled in place.
-fn route(h: Header, piece: &[u8], places: &mut [u32], buf: &mut [u8]) -> Verdict
-    requires places_len { (length places.old ≡ number_count) × (legal (places_in places.old) (length buf.old) ≡ true) }
+// The numbers and the buffer stay two arguments here and in `take_in`, as the C interface lends them to `step`.
+fn route(h: Header, piece: &[u8], places: &mut [u32; NUMBER_COUNT], buf: &mut [u8]) -> Verdict
+    requires allowed { legal (places_in places.old) (length buf.old) ≡ true }
     requires keeps { Keeps h piece.now }
     ensures value { result ≡ (routed (Parsed.Header h) piece.now (places_in places.old) buf.old).verdict }
     ensures places_after { places.new ≡ numbers_of (routed (Parsed.Header h) piece.now (places_in places.old) buf.old).places }
-    ensures places_after_2 { places_in places.new ≡ (routed (Parsed.Header h) piece.now (places_in places.old) buf.old).places }
+    ensures read_back { places_in places.new ≡ (routed (Parsed.Header h) piece.now (places_in places.old) buf.old).places }
     ensures buf_after { buf.new ≡ (routed (Parsed.Header h) piece.now (places_in places.old) buf.old).buffer }
 {
-    let k = find_place(h, places);
-    if PLACE_COUNT <= k {
+    let Some(seat) = find_place(h, places) else {
         return Verdict::Refused(turn_away(h, piece.len()));
-    }
-    let state = numbers::state_at(places, k);
-    take_in(k, state, h, piece, places, buf)
-}
-
-// Why a frame did not parse. It is called only for one that did not; `let .. else` does not say so.
-fn unread(parsed: Parsed) -> Reason
-    ensures { result ≡ unread_of parsed }
-{
-    match parsed {
-        Parsed::Refused(reason) => Reason::Step(reassembly::Reason::Unread(reason)),
-        Parsed::Header(_) => Reason::NoPlace,
-    }
+    };
+    take_in(seat, h, piece, places, buf)
 }
 
 // One call: a frame, for the receiver `us`. `places` are 64 numbers (see `places_in`): a zeroed block is eight fresh places.
 // Accepted data lands in the bytes of its own place; a refusal changes no byte of the buffer.
-pub fn step(places: &mut [u32; 64], frame: &[u8], us: u32, buf: &mut [u8]) -> Verdict
+pub fn step(places: &mut [u32; NUMBER_COUNT], frame: &[u8], us: u32, buf: &mut [u8]) -> Verdict
     ensures value { result ≡ (step_of us (places_in places.old) buf.old frame.now).verdict }
     ensures places_after { places.new ≡ numbers_of (step_of us (places_in places.old) buf.old frame.now).places }
-    ensures places_after_2 { places_in places.new ≡ (step_of us (places_in places.old) buf.old frame.now).places }
+    ensures read_back { places_in places.new ≡ (step_of us (places_in places.old) buf.old frame.now).places }
     ensures buf_after { buf.new ≡ (step_of us (places_in places.old) buf.old frame.now).buffer }
 {
     if !numbers::are_legal(places, buf.len()) {
         numbers::clear(places);
         return Verdict::Refused(Reason::Step(reassembly::Reason::BadState));
     }
-    let parsed = frame::read::parse(frame, us);
-    let Parsed::Header(h) = parsed else {
-        return Verdict::Refused(unread(parsed));
-    };
-    route(h, frame::read::data(frame), places, buf)
+    match frame::read::parse(frame, us) {
+        Parsed::Refused(reason) => {
+            Verdict::Refused(Reason::Step(reassembly::Reason::Unread(reason)))
+        }
+        Parsed::Header(h) => route(h, frame::read::data(frame), places, buf),
+    }
 }

@@ -1,278 +1,217 @@
 // The eight places as 64 numbers, eight of each place: whether it is open, its carried words, the next Index, and how many
-// bytes are filled.
-ghost use Rattle.std.specs.Prelude.{◌≡◌, true, cond, ◌+◌, ◌≤◌, ◌<◌, length, get_or, drop, set};
-ghost use Rattle.le.specs.Compare.{same};
-ghost use Rattle.reassembly.specs.Step.{consistent, waiting};
-ghost use Rattle.reassembly.specs.declared.State.TheVariants.{Fresh};
-ghost use Rattle.heads.specs.Places.{place_count, place_size, all_fresh, is_free_def, is_of_def, lowest, without, all_consistent, is_alone_def, distinct, legal};
-ghost use Rattle.heads.specs.Numbers.{row_size, number_count, byte_max, row_of, no_state_def, open_in_def, state_in_def, places_in, numbers_of};
+// bytes are filled. They stay one array, and no structs, since C lends them.
+ghost use Rattle.std.specs.Prelude.{◌≡◌, true, false, ◌≤◌, ◌<◌, map, length, get_or, set, position, MatchOption};
+ghost use Rattle.reassembly.specs.Step.{consistent};
+ghost use Rattle.reassembly.specs.declared.State.TheVariants.{Fresh, Open};
+ghost use Rattle.heads.specs.Places.{place_count, place_size, all_fresh, is_free_def, is_of_def, without, all_consistent, distinct, legal};
+ghost use Rattle.heads.specs.Numbers.{byte_max, row_of, state_in_def, rows, places_in, numbers_of};
 ghost use Rattle.heads.specs.Helpers.{relaid};
 
-use crate::{BUFFER_MIN, PLACE_COUNT, PLACE_SIZE};
+use crate::{BUFFER_MIN, NUMBER_COUNT, PLACE_SIZE};
 use frame::Words;
 use reassembly::{Progress, State};
 
 // How many numbers a place has.
 const ROW_SIZE: usize = 8;
 
-const BYTE_MAX: u32 = 0xFF;
-
-// An open state that no buffer is consistent with.
-fn no_state() -> State
-    ensures { result ≡ no_state_def }
-{
-    State::Open(Progress {
-        words: Words {
-            sequence: 0,
-            id: 0,
-            sender: 0,
-            status: 0,
-            total: 0,
-        },
-        next: 0,
-        filled: 0,
-    })
-}
-
-// Numbers that are no state read as one that is refused.
+// The state that a place's numbers are; numbers that are none read as one that is refused. Those of a fresh place are
+// joined by hand before they are tested, which is vector code; tried: `*row == [0; 8]`, 1.2 to 1.5 times as long with
+// eight senders, and one pattern for both kinds, 1.06 times.
 #[tactic(auto, unfolding(crate::specs::Numbers::state_in_def))]
-fn state_in(row: &[u32]) -> State
-    requires { length row.now ≡ row_size }
+fn state_in(row: &[u32; ROW_SIZE]) -> State
     ensures { result ≡ state_in_def row.now }
 {
-    let kind = row[0];
-    if kind == 0 {
-        return fresh_in(row);
+    if row[0] == 0 {
+        let any = row[1] | row[2] | row[3] | row[4] | row[5] | row[6] | row[7];
+        return if any == 0 {
+            State::Fresh
+        } else {
+            State::INCONSISTENT
+        };
     }
+    let [kind, sequence, id, sender, status, total, next, filled] = *row;
     if kind != 1 {
-        return no_state();
+        return State::INCONSISTENT;
     }
-    open_in(row)
-}
-
-// All of a fresh place's numbers are 0. They are joined before they are tested, which is vector code.
-fn fresh_in(row: &[u32]) -> State
-    requires { (length row.now ≡ row_size) × (get_or row.now 0 0 ≡ 0) }
-    ensures { result ≡ cond (same row.now (row_of Fresh)) Fresh no_state_def }
-{
-    let any = row[1] | row[2] | row[3] | row[4] | row[5] | row[6] | row[7];
-    if any == 0 {
-        return State::Fresh;
-    }
-    no_state()
-}
-
-fn open_in(row: &[u32]) -> State
-    requires { length row.now ≡ row_size }
-    ensures { result ≡ open_in_def row.now }
-{
-    let sequence = row[1];
-    if BYTE_MAX < sequence {
-        return no_state();
-    }
+    let Ok(sequence) = u8::try_from(sequence) else {
+        return State::INCONSISTENT;
+    };
     State::Open(Progress {
         words: Words {
-            sequence: sequence as u8,
-            id: row[2],
-            sender: row[3],
-            status: row[4],
-            total: row[5],
+            sequence,
+            id,
+            sender,
+            status,
+            total,
         },
-        next: row[6] as usize,
-        filled: row[7] as usize,
+        next: next as usize,
+        filled: filled as usize,
     })
 }
 
-// The state of place k.
-pub(crate) fn state_at(places: &[u32], k: usize) -> State
-    requires { (length places.now ≡ number_count) × (k < place_count) }
-    ensures { result ≡ get_or (places_in places.now) k Fresh }
+// The numbers of a place that is open.
+fn open_row(progress: Progress) -> [u32; ROW_SIZE]
+    requires { (progress.next ≤ place_size) × (progress.filled ≤ place_size) }
+    ensures row { result ≡ row_of (Open progress) }
+    ensures sequence_is_byte { progress.words.sequence ≤ byte_max }
 {
-    let start = ROW_SIZE * k;
-    let end = start + ROW_SIZE;
-    state_in(&places[start..end])
+    let words = progress.words;
+    [
+        1,
+        u32::from(words.sequence),
+        words.id,
+        words.sender,
+        words.status,
+        words.total,
+        progress.next as u32,
+        progress.filled as u32,
+    ]
 }
 
-// Lays the numbers of a place.
-fn lay(numbers: [u32; 8], row: &mut [u32])
-    requires { length row.old ≡ row_size }
-    ensures { row.new ≡ numbers }
+// The numbers of each place.
+fn rows_of(numbers: &[u32; NUMBER_COUNT]) -> &[[u32; ROW_SIZE]]
+    ensures { result.now ≡ rows place_count numbers.now }
 {
-    for k in 0..ROW_SIZE {
-        row[k] = numbers[k];
-    }
+    let (rows, _) = numbers.as_chunks();
+    rows
 }
 
-// Keeps an open state as the numbers of a place.
-fn write_open(words: Words, next: usize, filled: usize, row: &mut [u32])
-    requires { (length row.old ≡ row_size) × (next ≤ place_size) × (filled ≤ place_size) }
-    ensures row_after { row.new ≡ row_of (waiting words next filled) }
-    ensures sequence_le_byte_max { words.sequence ≤ byte_max }
-{
-    lay(
-        [
-            1,
-            words.sequence as u32,
-            words.id,
-            words.sender,
-            words.status,
-            words.total,
-            next as u32,
-            filled as u32,
-        ],
-        row,
-    );
+// A place, and a state for it: fresh or consistent.
+#[derive(Clone, Copy)]
+pub(crate) struct Seat {
+    pub(crate) k: usize,
+    pub(crate) state: State,
+    ghost in_range: { k < place_count },
+    ghost fits: { consistent state place_size ≡ true },
 }
 
-// Keeps a state as the numbers of a place.
-fn write_row(state: State, row: &mut [u32])
-    requires { (length row.old ≡ row_size) × (consistent state place_size ≡ true) }
-    ensures row_after { row.new ≡ row_of state }
-    ensures row_after_2 { state_in_def row.new ≡ state }
-{
-    match state {
-        State::Fresh => lay([0; 8], row),
-        State::Open(open) => write_open(open.words, open.next, open.filled, row),
-    }
-}
-
-// Keeps a state at place k.
-pub(crate) fn put(state: State, k: usize, places: &mut [u32])
-    requires { (length places.old ≡ number_count) × (k < place_count) × (consistent state place_size ≡ true) }
-    ensures places_after { places.new ≡ relaid k state places.old }
-    ensures places_after_2 { places_in places.new ≡ set (places_in places.old) k state }
-{
-    let start = ROW_SIZE * k;
-    let end = start + ROW_SIZE;
-    write_row(state, &mut places[start..end]);
-}
-
-// Whether place k is free.
-fn is_free(places: &[u32], k: usize) -> bool
-    requires { (length places.now ≡ number_count) × (k < place_count) × (all_consistent (places_in places.now) ≡ true) }
-    ensures { result ≡ is_free_def (get_or (places_in places.now) k Fresh) }
-{
-    places[ROW_SIZE * k] == 0
-}
-
-// The lowest free place, or 8.
-pub(crate) fn lowest_free(places: &[u32]) -> usize
-    requires { (length places.now ≡ number_count) × (all_consistent (places_in places.now) ≡ true) }
-    ensures { result ≡ lowest is_free_def (places_in places.now) }
-{
-    let mut k = 0;
-    while k < PLACE_COUNT {
-        if is_free(places, k) {
-            return k;
+impl Seat {
+    // The state as the numbers of a place.
+    fn row(self) -> [u32; ROW_SIZE]
+        ensures row { result ≡ row_of self.state }
+        ensures read_back { state_in_def result ≡ self.state }
+    {
+        match self.state {
+            State::Fresh => [0; ROW_SIZE],
+            State::Open(open) => open_row(open),
         }
-        k += 1;
     }
-    k
+
+    // Keeps the state at the place.
+    pub(crate) fn put(self, numbers: &mut [u32; NUMBER_COUNT])
+        ensures places_after { numbers.new ≡ relaid self.k self.state numbers.old }
+        ensures read_back { places_in numbers.new ≡ set (places_in numbers.old) self.k self.state }
+    {
+        let start = ROW_SIZE * self.k;
+        let end = start + ROW_SIZE;
+        numbers[start..end].copy_from_slice(&self.row());
+    }
 }
 
-// Whether the sender has its message at place k.
-fn is_of(places: &[u32], k: usize, sender: u32) -> bool
-    requires { (length places.now ≡ number_count) × (k < place_count) × (all_consistent (places_in places.now) ≡ true) }
-    ensures { result ≡ is_of_def sender (get_or (places_in places.now) k Fresh) }
-{
-    let start = ROW_SIZE * k;
-    if places[start] == 0 {
-        return false;
-    }
-    places[start + 3] == sender
+// Places, one behind another, of which each is fresh or consistent. So a place is free where its first number is 0.
+#[derive(Clone, Copy)]
+pub(crate) struct Places<'a> {
+    rows: &'a [[u32; ROW_SIZE]],
+    ghost few: { length rows.now ≤ place_count },
+    ghost all_fit: { all_consistent (map state_in_def rows.now) ≡ true },
 }
 
-// The lowest place of the sender, from a place on, or 8.
-pub(crate) fn place_from(places: &[u32], sender: u32, from: usize) -> usize
-    requires { (length places.now ≡ number_count) × (from ≤ place_count) × (all_consistent (places_in places.now) ≡ true) }
-    ensures { result ≡ from + lowest (is_of_def sender) (drop from (places_in places.now)) }
-{
-    let mut k = from;
-    while k < PLACE_COUNT {
-        if is_of(places, k, sender) {
-            return k;
+impl<'a> Places<'a> {
+    // All eight, where each is known to be fresh or consistent.
+    pub(crate) fn of(numbers: &'a [u32; NUMBER_COUNT]) -> Places<'a>
+        requires { all_consistent (places_in numbers.now) ≡ true }
+        ensures { result.rows.now ≡ rows place_count numbers.now }
+    {
+        Places {
+            rows: rows_of(numbers),
         }
-        k += 1;
     }
-    k
+
+    // All eight, if each is fresh or consistent.
+    fn read(numbers: &'a [u32; NUMBER_COUNT]) -> Option<Places<'a>>
+        ensures { MatchOption result (all_consistent (places_in numbers.now) ≡ false) (λ ps. ps.rows.now ≡ rows place_count numbers.now) }
+    {
+        let all_fit = rows_of(numbers)
+            .iter()
+            .all(|row| reassembly::is_consistent(state_in(row), PLACE_SIZE));
+        if !all_fit {
+            return None;
+        }
+        Some(Places::of(numbers))
+    }
+
+    // The lowest free place.
+    pub(crate) fn lowest_free(self) -> Option<usize>
+        ensures { result ≡ position is_free_def (map state_in_def self.entry.rows.now) }
+    {
+        self.rows.iter().position(|row| row[0] == 0)
+    }
+
+    // The lowest place of the sender.
+    pub(crate) fn place_of(self, sender: u32) -> Option<usize>
+        ensures { result ≡ position (is_of_def sender) (map state_in_def self.entry.rows.now) }
+    {
+        self.rows
+            .iter()
+            .position(|row| row[0] != 0 && row[3] == sender)
+    }
+
+    // Place k, and the state there.
+    pub(crate) fn seat(self, k: usize) -> Seat
+        requires { k < length self.rows.now }
+        ensures place { result.k ≡ k }
+        ensures state { result.state ≡ get_or (map state_in_def self.entry.rows.now) k Fresh }
+    {
+        Seat {
+            k,
+            state: state_in(&self.rows[k]),
+        }
+    }
+
+    // Whether no two have one sender.
+    fn are_distinct(self) -> bool
+        ensures { result ≡ distinct (map state_in_def self.entry.rows.now) }
+    {
+        let mut rest = self.rows;
+        // It counts nothing: it goes on with what is left.
+        while let Some((row, behind)) = rest.split_first() {
+            let others = Places { rows: behind };
+            if row[0] != 0 && others.place_of(row[3]).is_some() {
+                return false;
+            }
+            rest = behind;
+        }
+        true
+    }
 }
 
 // Drops what the sender has open.
-pub(crate) fn drop_own(sender: u32, places: &mut [u32])
-    requires { (length places.old ≡ number_count) × (all_consistent (places_in places.old) ≡ true) }
-    ensures places_after { places.new ≡ numbers_of (without sender (places_in places.old)) }
-    ensures places_after_2 { places_in places.new ≡ without sender (places_in places.old) }
+pub(crate) fn drop_own(sender: u32, numbers: &mut [u32; NUMBER_COUNT])
+    requires { all_consistent (places_in numbers.old) ≡ true }
+    ensures places_after { numbers.new ≡ numbers_of (without sender (places_in numbers.old)) }
+    ensures read_back { places_in numbers.new ≡ without sender (places_in numbers.old) }
 {
-    let k = place_from(places, sender, 0);
-    if k < PLACE_COUNT {
-        put(State::Fresh, k, places);
+    if let Some(k) = Places::of(numbers).place_of(sender) {
+        let fresh = Seat {
+            k,
+            state: State::Fresh,
+        };
+        fresh.put(numbers);
     }
-}
-
-// Whether each place is fresh or consistent.
-fn are_consistent(places: &[u32]) -> bool
-    requires { length places.now ≡ number_count }
-    ensures { result ≡ all_consistent (places_in places.now) }
-{
-    let mut k = 0;
-    while k < PLACE_COUNT {
-        if !reassembly::is_consistent(state_at(places, k), PLACE_SIZE) {
-            return false;
-        }
-        k += 1;
-    }
-    true
-}
-
-// Whether the sender of place k, if it is open, has none of the places behind it.
-fn is_alone(places: &[u32], k: usize) -> bool
-    requires { (length places.now ≡ number_count) × (k < place_count) × (all_consistent (places_in places.now) ≡ true) }
-    ensures { result ≡ is_alone_def (get_or (places_in places.now) k Fresh) (drop (k + 1) (places_in places.now)) }
-{
-    let start = ROW_SIZE * k;
-    if places[start] == 0 {
-        return true;
-    }
-    place_from(places, places[start + 3], k + 1) == PLACE_COUNT
-}
-
-// Whether no two places have one sender.
-fn are_distinct(places: &[u32]) -> bool
-    requires { (length places.now ≡ number_count) × (all_consistent (places_in places.now) ≡ true) }
-    ensures { result ≡ distinct (places_in places.now) }
-{
-    let mut k = 0;
-    while k < PLACE_COUNT {
-        if !is_alone(places, k) {
-            return false;
-        }
-        k += 1;
-    }
-    true
 }
 
 // Whether the places are such as calls leave, over a buffer of `room` bytes.
 #[tactic(auto, unfolding(crate::specs::Places::legal))]
-pub(crate) fn are_legal(places: &[u32], room: usize) -> bool
-    requires { length places.now ≡ number_count }
-    ensures { result ≡ legal (places_in places.now) room }
+pub(crate) fn are_legal(numbers: &[u32; NUMBER_COUNT], room: usize) -> bool
+    ensures { result ≡ legal (places_in numbers.now) room }
 {
-    if room < BUFFER_MIN {
-        return false;
-    }
-    if !are_consistent(places) {
-        return false;
-    }
-    are_distinct(places)
+    BUFFER_MIN <= room && Places::read(numbers).is_some_and(|places| places.are_distinct())
 }
 
 // Frees all places.
-pub(crate) fn clear(places: &mut [u32])
-    requires { length places.old ≡ number_count }
-    ensures places_after { places.new ≡ numbers_of all_fresh }
-    ensures places_after_2 { places_in places.new ≡ all_fresh }
+pub(crate) fn clear(numbers: &mut [u32; NUMBER_COUNT])
+    ensures places_after { numbers.new ≡ numbers_of all_fresh }
+    ensures read_back { places_in numbers.new ≡ all_fresh }
 {
-    for k in 0..places.len() {
-        places[k] = 0;
-    }
+    numbers.fill(0);
 }

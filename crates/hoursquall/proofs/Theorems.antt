@@ -10,6 +10,8 @@
 --     demand_3_exported, exactly_these_exported   and demand 3 holds of it
 --     ring_is_queue_exported   and so is the ring over blocks of positions the queue
 -- Assumes nothing.
+use Rattle.std.proofs.lemmas.Bool.{and_parts}
+use Rattle.std.specs.Prelude.{Result, Ok, Err}
 use Prim.Native.Nat.{ℕ, suc, ◌+◌, ◌^◌, ◌≤◌, ◌<◌}
 use mathlib.Core.Bool.{Bool, true, false, cond, not, ◌&&◌}
 use mathlib.Core.Path.{◌≡◌, refl, sym, subst, ap, ap₂, ◌∙◌}
@@ -21,7 +23,7 @@ use lib.ListN.{length, drop, get_or}
 use lib.Seq.{get_or-drop}
 use Rattle.le.specs.Word.{word, AreBytes}
 use Rattle.le.proofs.Words.{word_below}
-use Rattle.le.proofs.Tests.{both, either}
+use Rattle.le.proofs.Tests.{either}
 use Rattle.frame.specs.Layout.{header_size, frame_max, type_version, words_at, header_of}
 use Rattle.frame.specs.Reading.{parsed}
 use Rattle.frame.specs.declared.Words.{Words}
@@ -38,16 +40,17 @@ use Rattle.reassembly.specs.declared.Reason.{Reason}
 use Rattle.reassembly.specs.declared.Reason.TheVariants.{Unread, NothingOpen, OutOfOrder, OtherWords, NoData, TooMuchData, MessageLong, BadState}
 use Rattle.reassembly.specs.declared.Verdict.{Verdict}
 use Rattle.reassembly.specs.declared.Verdict.TheVariants.{More, Delivered, Refused}
+use Rattle.notice.specs.Ring as Notices
 use Rattle.notice.specs.Ring.{ring_after, output_after}
 use Rattle.notice.specs.Queue as Queue
 use Rattle.notice.specs.Queue.{Operation, post_of, take_to, Ring, post_step, take_step, ring_step}
 use Rattle.notice.specs.Statements.{empty}
-use Rattle.notice.specs.declared.Posted.{Posted}
-use Rattle.notice.specs.declared.Posted.TheVariants.{Stored, Refused as NotPosted}
+use Rattle.notice.specs.declared.Positions.{Positions}
+use Rattle.notice.specs.declared.Reason.{Reason as NoticeReason}
 use Rattle.notice.specs.declared.Taken.{Taken}
-use Rattle.notice.specs.declared.Taken.TheVariants.{Notice as Got, Refused as NotTaken}
 use Rattle.notice.proofs.Theorem.{ring_is_queue}
-use Rattle.hoursquall.specs.Notice.{positions_of_def, post_number, positions_after_post, take_number, positions_after_take, id_after, data_length_after, Kept, RingCall, of_post, of_take, post_in, take_in, told_by, kept_after}
+use Rattle.hoursquall.specs.Answer.{told}
+use Rattle.hoursquall.specs.Notice.{positions_of_def, positions_after_post, positions_after_take, id_after, data_length_after, Kept, RingCall, of_post, of_take, post_in, take_in, told_by, kept_after}
 use Rattle.hoursquall.specs.Reassembly.{byte_max, word_max, state_of_def, block_of, verdict_number, words_after, is_unread_def, Lent, lending, stepped, answered, left}
 use Rattle.hoursquall.specs.Statements.{WordsFit, StateFits, StateCrosses, up_in_c, frames_of, lent_to, run_blocks, RunCrosses, Demand3Exported, ExactlyTheseExported, RefusalLeavesLent, PositionsCross, run_ring, in_numbers, all_in_numbers, operations_of, RingIsQueueExported}
 
@@ -183,7 +186,7 @@ block_crosses us lent f fits = go (is_unread_def (answered us lent f)) refl
     go : (t : Bool) → is_unread_def (answered us lent f) ≡ t → state_of_def (cond t lent.block (block_of (stepped us lent f).answer.state)) ≡ (stepped us lent f).answer.state
     go true e =
         let n = answered us lent f in
-        let range = both (leb 1 n) (leb n 4) e in
+        let range = and_parts (leb 1 n) (leb n 4) e in
         sym ((leaves_lent us lent f (stepped us lent f).answer.verdict refl).0 (leb-true 1 n range.0) (leb-true n 4 range.1))
     go false e = state_crosses (stepped us lent f).answer.state fits
 
@@ -215,40 +218,40 @@ abbrev ring_of : Kept → Ring
 ring_of k = record { bytes = k.ring; at = positions_of_def k.block }
 
 -- one call tells what is seen of the operation, and leaves the ring that it leaves
-told : (k : Kept) (c : RingCall) → told_by k c.operation c.id c.extent ≡ in_numbers c (ring_step (ring_of k) c.operation).seen
-told k c = by c.operation
+seen_in_numbers : (k : Kept) (c : RingCall) → told_by k c.operation c.id c.extent ≡ in_numbers c (ring_step (ring_of k) c.operation).seen
+seen_in_numbers k c = by c.operation
   where
     by : (op : Operation) → told_by k op c.id c.extent ≡ in_numbers c (ring_step (ring_of k) op).seen
     by (post_of n) = go (post_in k n)
       where
-        go : (p : Posted) → of_post (post_number p) ≡ in_numbers c (post_step p (ring_of k) n).seen
-        go (Stored next) = refl
-        go (NotPosted reason) = refl
+        go : (p : Result Positions NoticeReason) → of_post (told Notices.number_of p) ≡ in_numbers c (post_step p (ring_of k) n).seen
+        go (Ok next) = refl
+        go (Err reason) = refl
     by (take_to out) = go (take_in k out)
       where
-        go : (t : Taken) → of_take (take_number t) (output_after t k.ring (positions_of_def k.block) out) (id_after t c.id) (data_length_after t c.extent)
+        go : (t : Result Taken NoticeReason) → of_take (told Notices.number_of t) (output_after t k.ring (positions_of_def k.block) out) (id_after t c.id) (data_length_after t c.extent)
             ≡ in_numbers c (take_step t (ring_of k) out).seen
-        go (Got id n next) = refl
-        go (NotTaken reason) = refl
+        go (Ok taken) = refl
+        go (Err reason) = refl
 
 keeps : (k : Kept) (op : Operation) → ring_of (kept_after k op) ≡ (ring_step (ring_of k) op).next
 keeps k (post_of n) = go (post_in k n)
   where
-    go : (p : Posted) → ring_of (record { ring = ring_after p k.ring (positions_of_def k.block) n.id n.body; block = positions_after_post p k.block })
+    go : (p : Result Positions NoticeReason) → ring_of (record { ring = ring_after p k.ring (positions_of_def k.block) n.id n.body; block = positions_after_post p k.block })
         ≡ (post_step p (ring_of k) n).next
-    go (Stored next) = refl
-    go (NotPosted reason) = refl
+    go (Ok next) = refl
+    go (Err reason) = refl
 keeps k (take_to out) = go (take_in k out)
   where
-    go : (t : Taken) → ring_of (record { ring = k.ring; block = positions_after_take t k.block }) ≡ (take_step t (ring_of k) out).next
-    go (Got id n next) = refl
-    go (NotTaken reason) = refl
+    go : (t : Result Taken NoticeReason) → ring_of (record { ring = k.ring; block = positions_after_take t k.block }) ≡ (take_step t (ring_of k) out).next
+    go (Ok taken) = refl
+    go (Err reason) = refl
 
 ring_crosses : (k : Kept) (cs : List RingCall) → run_ring k cs ≡ all_in_numbers cs (Queue.run ring_step (ring_of k) (operations_of cs))
 unfolding run_ring all_in_numbers Queue.run
 ring_crosses k [] = refl
 ring_crosses k (c ∷ cs) =
-    ap₂ ◌∷◌ (told k c)
+    ap₂ ◌∷◌ (seen_in_numbers k c)
     (ring_crosses (kept_after k c.operation) cs
     ∙ ap (λ (r : Ring). all_in_numbers cs (Queue.run ring_step r (operations_of cs))) (keeps k c.operation))
 

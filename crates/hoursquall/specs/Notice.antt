@@ -1,41 +1,35 @@
 -- The positions and the answers of the crate `notice` as numbers. A refusal leaves what the caller lent as it was.
 -- Assumes nothing.
-use Rattle.std.specs.Prelude.{ℕ, List, [], ◌∷◌, get_or}
+use Rattle.std.specs.Prelude.{ℕ, List, [], ◌∷◌, get_or, Result, Ok, Err}
 use Rattle.notice.specs.declared.Positions.{Positions}
-use Rattle.notice.specs.declared.Posted.{Posted}
-use Rattle.notice.specs.declared.Posted.TheVariants.{Stored, Refused as NotPosted}
 use Rattle.notice.specs.declared.Taken.{Taken}
-use Rattle.notice.specs.declared.Taken.TheVariants.{Notice as Got, Refused as NotTaken}
+use Rattle.notice.specs.declared.Reason.{Reason}
 use Rattle.notice.specs.Ring as Ring
 use Rattle.notice.specs.Queue.{Notice, Operation, post_of, take_to}
+use Rattle.hoursquall.specs.Answer.{told, left_lent}
 
 -- the positions that a block of two numbers is
 abbrev pub positions_of_def : List ℕ → Positions
 positions_of_def b = record { read = get_or b 0 0; write = get_or b 1 0 }
 
-abbrev pub post_number : Posted → ℕ
-post_number (Stored next) = 0
-post_number (NotPosted reason) = Ring.number_of reason
+-- the block of positions
+abbrev pub block_of_positions : Positions → List ℕ
+block_of_positions p = p.read ∷ p.write ∷ []
 
-abbrev pub positions_after_post : Posted → List ℕ → List ℕ
-positions_after_post (Stored next) before = next.read ∷ next.write ∷ []
-positions_after_post (NotPosted reason) before = before
+abbrev pub positions_after_post : Result Positions Reason → List ℕ → List ℕ
+positions_after_post answer before = left_lent block_of_positions answer before
 
-abbrev pub take_number : Taken → ℕ
-take_number (Got id n next) = 0
-take_number (NotTaken reason) = Ring.number_of reason
+abbrev pub positions_after_take : Result Taken Reason → List ℕ → List ℕ
+positions_after_take (Ok taken) before = block_of_positions taken.positions
+positions_after_take (Err reason) before = before
 
-abbrev pub positions_after_take : Taken → List ℕ → List ℕ
-positions_after_take (Got id n next) before = next.read ∷ next.write ∷ []
-positions_after_take (NotTaken reason) before = before
+abbrev pub id_after : Result Taken Reason → ℕ → ℕ
+id_after (Ok taken) before = taken.id
+id_after (Err reason) before = before
 
-abbrev pub id_after : Taken → ℕ → ℕ
-id_after (Got id n next) before = id
-id_after (NotTaken reason) before = before
-
-abbrev pub data_length_after : Taken → ℕ → ℕ
-data_length_after (Got id n next) before = n
-data_length_after (NotTaken reason) before = before
+abbrev pub data_length_after : Result Taken Reason → ℕ → ℕ
+data_length_after (Ok taken) before = taken.length
+data_length_after (Err reason) before = before
 
 -- what a caller of `hs_notice_post` and `hs_notice_take` keeps between calls: the ring, and the block of its positions
 pub record Kept : Type 0 where
@@ -53,17 +47,17 @@ pub data Told : Type 0 where
   of_post : ℕ → Told
   of_take : ℕ → List ℕ → ℕ → ℕ → Told
 
-abbrev pub post_in : Kept → Notice → Posted
+abbrev pub post_in : Kept → Notice → Result Positions Reason
 post_in k n = Ring.posted k.ring (positions_of_def k.block) n.id n.body
 
-abbrev pub take_in : Kept → List ℕ → Taken
+abbrev pub take_in : Kept → List ℕ → Result Taken Reason
 take_in k out = Ring.taken_of k.ring (positions_of_def k.block) out
 
 -- what the contracts of the two functions promise of the answer and of what is lent, by operation
 abbrev pub told_by : Kept → Operation → ℕ → ℕ → Told
-told_by k (post_of n) id extent = of_post (post_number (post_in k n))
+told_by k (post_of n) id extent = of_post (told Ring.number_of (post_in k n))
 told_by k (take_to out) id extent =
-    of_take (take_number (take_in k out)) (Ring.output_after (take_in k out) k.ring (positions_of_def k.block) out) (id_after (take_in k out) id)
+    of_take (told Ring.number_of (take_in k out)) (Ring.output_after (take_in k out) k.ring (positions_of_def k.block) out) (id_after (take_in k out) id)
     (data_length_after (take_in k out) extent)
 
 abbrev pub kept_after : Kept → Operation → Kept

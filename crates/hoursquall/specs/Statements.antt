@@ -1,6 +1,6 @@
 -- What is proved of the numbers that C keeps between calls. The proofs are in `proofs/Theorems.antt`, under the names given here.
 -- Assumes nothing.
-use Rattle.std.specs.Prelude.{ℕ, ◌^◌, ◌≤◌, ◌<◌, cond, ◌≡◌, List, [], ◌∷◌, map, eqb, length, take, get_or}
+use Rattle.std.specs.Prelude.{ℕ, ◌^◌, ◌≤◌, ◌<◌, cond, ◌≡◌, List, [], ◌∷◌, map, eqb, length, take, get_or, Ok}
 use Rattle.std.proofs.Math.Option.{Option, none, some}
 use Rattle.le.specs.Word.{AreBytes}
 use Rattle.frame.specs.Framing.{All}
@@ -11,8 +11,6 @@ use Rattle.reassembly.specs.Traffic.{Traffic, LegalTraffic, calls, arrived, expe
 use Rattle.reassembly.specs.declared.State.{State}
 use Rattle.reassembly.specs.declared.State.TheVariants.{Fresh, Open}
 use Rattle.notice.specs.declared.Positions.{Positions}
-use Rattle.notice.specs.declared.Posted.TheVariants.{Stored}
-use Rattle.notice.specs.declared.Taken.TheVariants.{Notice as Got}
 use Rattle.notice.specs.Ring as Ring
 use Rattle.notice.specs.Queue as Queue
 use Rattle.notice.specs.Queue.{Operation, Seen, accepted, rejected, given, nothing, queue_step}
@@ -105,8 +103,8 @@ RefusalLeavesLent =
 abbrev pub PositionsCross : Type 0
 PositionsCross =
     (id n : ℕ) (p : Positions) (before : List ℕ)
-    → (positions_of_def (positions_after_post (Stored p) before) ≡ p)
-    × (positions_of_def (positions_after_take (Got id n p) before) ≡ p)
+    → (positions_of_def (positions_after_post (Ok p) before) ≡ p)
+    × (positions_of_def (positions_after_take (Ok (record { id = id; length = n; positions = p })) before) ≡ p)
 
 -- what each call of the list tells, each call with the ring and the block as the last one left them
 unfoldable pub run_ring : Kept → List RingCall → List Told

@@ -1,37 +1,29 @@
--- The answers of the crate `ubios` as numbers: 0 where there is an answer, else the number of the refusal. A refusal leaves what the caller lent as it was.
+-- What the crate `ubios` answers, as numbers. A refusal leaves what the caller lent as it was.
 -- Assumes nothing.
-use Rattle.std.specs.Prelude.{ℕ, List, [], ◌∷◌}
-use Rattle.ubios.specs.declared.Checked.{Checked}
-use Rattle.ubios.specs.declared.Checked.TheVariants.{Passed, Refused as Failed}
-use Rattle.ubios.specs.declared.RootChecked.{RootChecked}
-use Rattle.ubios.specs.declared.RootChecked.TheVariants.{Passed as RootPassed, Refused as RootFailed}
-use Rattle.ubios.specs.declared.lookup.Found.{Found}
-use Rattle.ubios.specs.declared.lookup.Found.TheVariants.{Only, Refused as NotFound}
-use Rattle.ubios.specs.Checks as Checks
-
-abbrev pub table_number : Checked → ℕ
-table_number (Passed table) = 0
-table_number (Failed reason) = Checks.number_of reason
+use Rattle.std.specs.Prelude.{ℕ, List, [], ◌∷◌, Result}
+use Rattle.ubios.specs.declared.Reason.{Reason}
+use Rattle.ubios.specs.declared.Root.{Root}
+use Rattle.ubios.specs.declared.Table.{Table}
+use Rattle.ubios.specs.declared.lookup.Body.{Body}
+use Rattle.hoursquall.specs.Answer.{left_lent}
 
 -- the used part's place in the region and its length
-abbrev pub part_after : Checked → List ℕ → List ℕ
-part_after (Passed table) before = table.at ∷ table.used ∷ []
-part_after (Failed reason) before = before
+abbrev pub part_of : Table → List ℕ
+part_of table = table.at ∷ table.used ∷ []
 
-abbrev pub root_number : RootChecked → ℕ
-root_number (RootPassed root) = 0
-root_number (RootFailed reason) = Checks.number_of reason
+abbrev pub part_after : Result Table Reason → List ℕ → List ℕ
+part_after answer before = left_lent part_of answer before
 
 -- the used part likewise, and how many slots there are
-abbrev pub root_part_after : RootChecked → List ℕ → List ℕ
-root_part_after (RootPassed root) before = root.table.at ∷ root.table.used ∷ root.count ∷ []
-root_part_after (RootFailed reason) before = before
+abbrev pub root_part_of : Root → List ℕ
+root_part_of root = root.table.at ∷ root.table.used ∷ root.count ∷ []
 
-abbrev pub find_number : Found → ℕ
-find_number (Only body) = 0
-find_number (NotFound reason) = Checks.number_of reason
+abbrev pub root_part_after : Result Root Reason → List ℕ → List ℕ
+root_part_after answer before = left_lent root_part_of answer before
 
 -- the slot, and the body's place in the region and its length
-abbrev pub body_after : Found → List ℕ → List ℕ
-body_after (Only body) before = body.slot ∷ body.at ∷ body.length ∷ []
-body_after (NotFound reason) before = before
+abbrev pub place_of : Body → List ℕ
+place_of body = body.slot ∷ body.at ∷ body.length ∷ []
+
+abbrev pub body_after : Result Body Reason → List ℕ → List ℕ
+body_after answer before = left_lent place_of answer before

@@ -1,73 +1,38 @@
 // The notice ring. Its positions are a block of two numbers, read and write, for a caller to keep between calls.
 ghost use Rattle.std.specs.Prelude.{◌≡◌};
 ghost use Rattle.notice.specs.Ring as Ring;
-ghost use Rattle.hoursquall.specs.Notice.{positions_of_def, post_number, positions_after_post, take_number, positions_after_take, id_after, data_length_after};
+ghost use Rattle.hoursquall.specs.Answer.{told};
+ghost use Rattle.hoursquall.specs.Notice.{positions_of_def, positions_after_take, id_after, data_length_after};
 
-use notice::{Positions, Posted, Taken};
+use crate::answer::Numbered;
+use notice::{Positions, Reason, Taken};
 
-fn positions_of(block: [usize; 2]) -> Positions
+// The positions that a block is.
+pub fn positions_of(block: [usize; 2]) -> Positions
     ensures { result ≡ positions_of_def block }
 {
-    Positions {
-        read: block[0],
-        write: block[1],
-    }
+    let [read, write] = block;
+    Positions { read, write }
 }
 
-// Posts a notice to a ring.
-pub fn hs_notice_post(ring: &mut [u8], positions: &mut [usize; 2], id: u32, body: &[u8]) -> u32
-    ensures value { result ≡ post_number (Ring.posted ring.old (positions_of_def positions.old) id body.now) }
-    ensures ring_after { ring.new ≡ Ring.ring_after (Ring.posted ring.old (positions_of_def positions.old) id body.now) ring.old (positions_of_def positions.old) id body.now }
-    ensures positions_after { positions.new ≡ positions_after_post (Ring.posted ring.old (positions_of_def positions.old) id body.now) positions.old }
-{
-    let answer = notice::post(ring, positions_of(*positions), id, body);
-    tell_posted(answer, positions)
-}
-
-fn tell_posted(answer: Posted, positions: &mut [usize; 2]) -> u32
-    ensures value { result ≡ post_number answer }
-    ensures positions_after { positions.new ≡ positions_after_post answer positions.old }
-{
-    match answer {
-        Posted::Refused(reason) => reason.number(),
-        Posted::Stored(next) => {
-            *positions = [next.read, next.write];
-            0
-        }
-    }
-}
-
-// Takes the oldest notice of a ring; its data goes to the start of `out`, `id` and `extent` receive its
-// Notify ID and the data's length.
-pub fn hs_notice_take(
-    ring: &[u8],
+// The positions after a take, Notify ID and Data Length, each to a place of its own.
+pub fn tell_taken(
+    answer: Result<Taken, Reason>,
     positions: &mut [usize; 2],
-    out: &mut [u8],
     id: &mut u32,
     extent: &mut usize,
 ) -> u32
-    ensures value { result ≡ take_number (Ring.taken_of ring.now (positions_of_def positions.old) out.old) }
-    ensures positions_after { positions.new ≡ positions_after_take (Ring.taken_of ring.now (positions_of_def positions.old) out.old) positions.old }
-    ensures out_after { out.new ≡ Ring.output_after (Ring.taken_of ring.now (positions_of_def positions.old) out.old) ring.now (positions_of_def positions.old) out.old }
-    ensures id_after { id.new ≡ id_after (Ring.taken_of ring.now (positions_of_def positions.old) out.old) id.old }
-    ensures extent_after { extent.new ≡ data_length_after (Ring.taken_of ring.now (positions_of_def positions.old) out.old) extent.old }
-{
-    let answer = notice::take(ring, positions_of(*positions), out);
-    tell_taken(answer, positions, id, extent)
-}
-
-fn tell_taken(answer: Taken, positions: &mut [usize; 2], id: &mut u32, extent: &mut usize) -> u32
-    ensures value { result ≡ take_number answer }
+    ensures value { result ≡ told Ring.number_of answer }
     ensures positions_after { positions.new ≡ positions_after_take answer positions.old }
     ensures id_after { id.new ≡ id_after answer id.old }
     ensures extent_after { extent.new ≡ data_length_after answer extent.old }
 {
     match answer {
-        Taken::Refused(reason) => reason.number(),
-        Taken::Notice(i, length, rest) => {
-            *positions = [rest.read, rest.write];
-            *id = i;
-            *extent = length;
+        Err(reason) => reason.number(),
+        Ok(taken) => {
+            *positions = taken.positions.numbers();
+            *id = taken.id;
+            *extent = taken.length;
             0
         }
     }

@@ -1,78 +1,52 @@
-// The state of a reassembly as a block of eight numbers, for a caller to keep between calls.
+// The state of a reassembly as a block of eight numbers, for a caller to keep between calls: C lends it. `heads` keeps its places
+// by a layout of its own: there all of a fresh place is 0, and a number has 32 bits.
 ghost use Rattle.std.specs.Prelude.{◌≡◌};
-ghost use Rattle.hoursquall.specs.Reassembly.{no_state_def, open_of_def, state_of_def, block_of, is_unread_def, block_after};
+ghost use Rattle.hoursquall.specs.Reassembly.{open_of_def, state_of_def, block_of, verdict_number, block_after};
 
 use frame::Words;
-use reassembly::{Progress, State};
-
-const BYTE_MAX: u64 = 0xFF;
-
-const WORD_MAX: u64 = 0xFFFF_FFFF;
-
-// An open state that no buffer is consistent with.
-fn no_state() -> State
-    ensures { result ≡ no_state_def }
-{
-    State::Open(Progress {
-        words: Words {
-            sequence: 0,
-            id: 0,
-            sender: 0,
-            status: 0,
-            total: 0,
-        },
-        next: 0,
-        filled: 0,
-    })
-}
+use reassembly::{Answer, Progress, Reason, State, Verdict};
 
 // A block that is no state reads as one that is refused.
+#[tactic(auto, unfolding(crate::specs::Reassembly::state_of_def))]
 pub fn state_of(b: [u64; 8]) -> State
     ensures { result ≡ state_of_def b }
 {
-    let kind = b[0];
-    if kind == 0 {
-        return State::Fresh;
+    match b[0] {
+        0 => State::Fresh,
+        1 => open_of(b),
+        _ => State::INCONSISTENT,
     }
-    if kind != 1 {
-        return no_state();
-    }
-    open_of(b)
 }
 
 fn open_of(b: [u64; 8]) -> State
     ensures { result ≡ open_of_def b }
 {
-    let sequence = b[1];
-    let id = b[2];
-    let sender = b[3];
-    let status = b[4];
-    let total = b[5];
-    if BYTE_MAX < sequence {
-        return no_state();
-    }
-    if WORD_MAX < id {
-        return no_state();
-    }
-    if WORD_MAX < sender {
-        return no_state();
-    }
-    if WORD_MAX < status {
-        return no_state();
-    }
-    if WORD_MAX < total {
-        return no_state();
-    }
+    let [_, sequence, id, sender, status, total, next, filled] = b;
+    let Ok(sequence) = u8::try_from(sequence) else {
+        return State::INCONSISTENT;
+    };
+    let Ok(id) = u32::try_from(id) else {
+        return State::INCONSISTENT;
+    };
+    let Ok(sender) = u32::try_from(sender) else {
+        return State::INCONSISTENT;
+    };
+    let Ok(status) = u32::try_from(status) else {
+        return State::INCONSISTENT;
+    };
+    let Ok(total) = u32::try_from(total) else {
+        return State::INCONSISTENT;
+    };
     State::Open(Progress {
         words: Words {
-            sequence: sequence as u8,
-            id: id as u32,
-            sender: sender as u32,
-            status: status as u32,
-            total: total as u32,
+            sequence,
+            id,
+            sender,
+            status,
+            total,
         },
-        next: b[6] as usize,
-        filled: b[7] as usize,
+        next: next as usize,
+        filled: filled as usize,
     })
 }
 
@@ -88,11 +62,11 @@ pub fn write_state(state: State, block: &mut [u64; 8])
             let words = open.words;
             *block = [
                 1,
-                words.sequence as u64,
-                words.id as u64,
-                words.sender as u64,
-                words.status as u64,
-                words.total as u64,
+                u64::from(words.sequence),
+                u64::from(words.id),
+                u64::from(words.sender),
+                u64::from(words.status),
+                u64::from(words.total),
                 open.next as u64,
                 open.filled as u64,
             ];
@@ -100,21 +74,12 @@ pub fn write_state(state: State, block: &mut [u64; 8])
     }
 }
 
-// Whether a number is that of a frame that is not read.
-fn is_unread(number: u32) -> bool
-    ensures { result ≡ is_unread_def number }
-{
-    if number < 1 {
-        return false;
-    }
-    number <= 4
-}
-
 // Writes the state after an answer to its block. A frame that is not read leaves the block as it was lent.
-pub(crate) fn write_block(number: u32, next: State, block: &mut [u64; 8])
-    ensures { block.new ≡ block_after number next block.old }
+pub(crate) fn write_block(answer: Answer, block: &mut [u64; 8])
+    ensures { block.new ≡ block_after (verdict_number answer.verdict) answer.state block.old }
 {
-    if !is_unread(number) {
-        write_state(next, block);
+    match answer.verdict {
+        Verdict::Refused(Reason::Unread(_)) => {}
+        _ => write_state(answer.state, block),
     }
 }

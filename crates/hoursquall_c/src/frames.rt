@@ -1,25 +1,33 @@
 // Frames: the reader, the frame count and the writer.
 ghost use Rattle.std.specs.Prelude.{◌≡◌};
 ghost use Rattle.frame.specs.Reading.{parsed};
-ghost use Rattle.frame.specs.Writing.{counted, written, output_after};
-ghost use Rattle.hoursquall.specs.Frame.{parse_number, header_after, count_number, count_after, write_number, length_after, envelope_of};
+ghost use Rattle.frame.specs.Writing.{number_of, counted, written, output_after};
+ghost use Rattle.hoursquall.specs.Answer.{told, left_lent, itself};
+ghost use Rattle.hoursquall.specs.Frame.{parse_number, header_after, envelope_of};
 
+use frame::Envelope;
+use hoursquall::answer::tell;
+use hoursquall::frames::tell_parsed;
+
+// Reads a frame for the receiver `us`; `header` receives its words in the frame's order.
 #[unsafe(no_mangle)]
 pub extern "C" fn hs_frame_parse(frame: &[u8], us: u32, header: &mut [u32; 7]) -> u32
     ensures value { result ≡ parse_number (parsed us frame.now) }
     ensures header_after { header.new ≡ header_after (parsed us frame.now) header.old }
 {
-    hoursquall::frames::hs_frame_parse(frame, us, header)
+    tell_parsed(frame::read::parse(frame, us), header)
 }
 
+// How many frames a message of `total` bytes makes in pieces of `size`.
 #[unsafe(no_mangle)]
 pub extern "C" fn hs_frame_count(total: usize, size: usize, frames: &mut usize) -> u32
-    ensures value { result ≡ count_number (counted total size) }
-    ensures frames_after { frames.new ≡ count_after (counted total size) frames.old }
+    ensures value { result ≡ told number_of (counted total size) }
+    ensures frames_after { frames.new ≡ left_lent itself (counted total size) frames.old }
 {
-    hoursquall::frames::hs_frame_count(total, size, frames)
+    tell(frame::write::count(total, size), frames)
 }
 
+// Writes one frame of a message at the start of `out`; `extent` receives the frame's length.
 #[unsafe(no_mangle)]
 pub extern "C" fn hs_frame_write(
     sequence: u8,
@@ -33,11 +41,16 @@ pub extern "C" fn hs_frame_write(
     out: &mut [u8],
     extent: &mut usize,
 ) -> u32
-    ensures value { result ≡ write_number (written (envelope_of sequence id sender status receiver) message.now size index out.old) }
+    ensures value { result ≡ told number_of (written (envelope_of sequence id sender status receiver) message.now size index out.old) }
     ensures out_after { out.new ≡ output_after (envelope_of sequence id sender status receiver) message.now size index out.old }
-    ensures extent_after { extent.new ≡ length_after (written (envelope_of sequence id sender status receiver) message.now size index out.old) extent.old }
+    ensures extent_after { extent.new ≡ left_lent itself (written (envelope_of sequence id sender status receiver) message.now size index out.old) extent.old }
 {
-    hoursquall::frames::hs_frame_write(
-        sequence, id, sender, status, receiver, message, size, index, out, extent,
-    )
+    let e = Envelope {
+        sequence,
+        id,
+        sender,
+        status,
+        receiver,
+    };
+    tell(frame::write::write(e, message, size, index, out), extent)
 }

@@ -1,7 +1,12 @@
 // Messages, taken in frame by frame.
 ghost use Rattle.std.specs.Prelude.{◌≡◌};
-ghost use Rattle.hoursquall.specs.Reassembly.{verdict_number, words_after, block_after, lending, answered, left};
+ghost use Rattle.hoursquall.specs.Reassembly.{lending, answered, left};
 
+use hoursquall::messages::tell;
+use hoursquall::state::state_of;
+
+// Takes one frame into a reassembly. `state` is a block of eight numbers (see `state_of_def`), `words` receives
+// the carried words of a message that is delivered.
 #[unsafe(no_mangle)]
 pub extern "C" fn hs_reassembly_step(
     state: &mut [u64; 8],
@@ -15,5 +20,6 @@ pub extern "C" fn hs_reassembly_step(
     ensures buffer_after { buffer.new ≡ (left us (lending state.old buffer.old words.old) frame.now).buffer }
     ensures words_after { words.new ≡ (left us (lending state.old buffer.old words.old) frame.now).words }
 {
-    hoursquall::messages::hs_reassembly_step(state, frame, us, buffer, words)
+    let answer = reassembly::step(state_of(*state), frame, us, buffer);
+    tell(answer, state, words)
 }

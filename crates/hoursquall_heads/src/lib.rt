@@ -7,7 +7,7 @@ ghost use Rattle.hoursquall_heads.specs.Heads.{verdict_number, words_after, plac
 
 use heads::Verdict;
 
-// The answer that a message is delivered.
+// The answer that a message is delivered: a number, as the C interface has it.
 const DELIVERED: u32 = 100;
 
 // Takes one frame in. `places` is a block of 64 numbers (see `places_in`); `words` receives the carried words of a message
@@ -31,7 +31,8 @@ pub extern "C" fn hs_heads_step(
     tell_verdict(verdict, words, place)
 }
 
-// A verdict as a number; a delivery's words and place go to what is lent for them.
+// A verdict as a number; a delivery's words and place go to what is lent for them. It is no plainer by the function that tells
+// the reassembly's verdict: this one is another type, and has a place.
 pub fn tell_verdict(verdict: Verdict, words: &mut [u32; 5], place: &mut usize) -> u32
     ensures value { result ≡ verdict_number verdict }
     ensures words_after { words.new ≡ words_after verdict words.old }
@@ -40,7 +41,7 @@ pub fn tell_verdict(verdict: Verdict, words: &mut [u32; 5], place: &mut usize) -
     match verdict {
         Verdict::More => 0,
         Verdict::Delivered(w, _, k) => {
-            *words = [w.sequence as u32, w.id, w.sender, w.status, w.total];
+            *words = [u32::from(w.sequence), w.id, w.sender, w.status, w.total];
             *place = k;
             DELIVERED
         }

@@ -6,6 +6,7 @@
 --     nothing_lost_exported, any_chunks_exported   of which no line is lost, and the texts joined are the log's lines
 --     record_crosses       the same of the state's block, record by record
 -- Assumes nothing.
+use Rattle.std.specs.Prelude.{Result, Ok, Err}
 use Prim.Native.Nat.{ℕ, ◌+◌, ◌-◌, ◌≤◌}
 use mathlib.Core.Bool.{Bool, true, false, cond}
 use mathlib.Core.Path.{◌≡◌, refl, sym, ap, ap₂, subst, ◌∙◌}
@@ -17,8 +18,7 @@ use lib.ListN.{length, take, drop, get_or}
 use Rattle.le.specs.Word.{AreBytes}
 use Rattle.framelog.specs.Layout.{record_size, cut_of}
 use Rattle.framelog.specs.Reading.{read_of}
-use Rattle.framelog.specs.declared.Logged.{Logged}
-use Rattle.framelog.specs.declared.Logged.TheVariants.{Frame, Refused}
+use Rattle.framelog.specs.declared.Reason.{Reason}
 use Rattle.reassembly.specs.declared.State.{State}
 use Rattle.reassembly.specs.declared.State.TheVariants.{Fresh, Open}
 use Rattle.replay.specs.Chunk.{Span, nothing, halts, starting, line_for, next_player, played}
@@ -62,9 +62,9 @@ starts_at block first last = ap₂ playing (rw (eq-eqb (get_or block 0 0) 0 firs
 stage_fits : (us : ℕ) (state : State) (buffer r : List ℕ) → StateFits state → AreBytes r → StateFits (play_of us state buffer r).answer.state
 stage_fits us state buffer r fits are = by (read_of record_size r) refl
   where
-    by : (x : Logged) → read_of record_size r ≡ x → StateFits (play_of us state buffer r).answer.state
-    by (Refused reason) e = rw (is_skipped us state buffer r reason e) fits
-    by (Frame n) e = rw (is_run us state buffer r n e) (step_crosses [] us state fits buffer (cut_of n r) (are_take n (drop 4 r) (are_drop 4 r are))).fits
+    by : (x : Result ℕ Reason) → read_of record_size r ≡ x → StateFits (play_of us state buffer r).answer.state
+    by (Err reason) e = rw (is_skipped us state buffer r reason e) fits
+    by (Ok n) e = rw (is_run us state buffer r n e) (step_crosses [] us state fits buffer (cut_of n r) (are_take n (drop 4 r) (are_drop 4 r are))).fits
 
 -- what is played leaves such a state, and where nothing is read it leaves the player
 record Kept (player : Player) (s : Span) : Type 0 where
@@ -139,9 +139,9 @@ any_chunks_exported us block buffer log cs first last long are chunked all =
 pub record_crosses : RecordCrosses
 record_crosses us lent slice are = by (read_of record_size slice) refl
   where
-    by : (x : Logged) → read_of record_size slice ≡ x → state_of_def (left_by us lent slice).block ≡ (staged_in us lent slice).answer.state
-    by (Refused reason) e = rw (is_skipped us (state_of_def lent.block) lent.buffer slice reason e)
-    by (Frame n) e =
+    by : (x : Result ℕ Reason) → read_of record_size slice ≡ x → state_of_def (left_by us lent slice).block ≡ (staged_in us lent slice).answer.state
+    by (Err reason) e = rw (is_skipped us (state_of_def lent.block) lent.buffer slice reason e)
+    by (Ok n) e =
         let f = cut_of n slice in
         let fits = step_crosses lent.words us (state_of_def lent.block) (state_fits lent.block) lent.buffer f (are_take n (drop 4 slice) (are_drop 4 slice are)) in
         rw (is_run us (state_of_def lent.block) lent.buffer slice n e) (block_crosses us lent f fits.fits)

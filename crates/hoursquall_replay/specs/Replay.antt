@@ -1,29 +1,29 @@
 -- The player and the answers of the crate `replay` as numbers.
 -- Assumes nothing.
-use Rattle.std.specs.Prelude.{ℕ, cond, List, [], ◌∷◌, ◌++◌, eqb, get_or}
+use Rattle.std.specs.Prelude.{ℕ, cond, List, [], ◌∷◌, ◌++◌, eqb, get_or, Result, Ok, Err}
 use Rattle.framelog.specs.Layout as Layout
 use Rattle.reassembly.specs.declared.State.{State}
 use Rattle.replay.specs.Chunk.{Span, played, answer_of}
 use Rattle.replay.specs.Day.{Stage, play_of}
-use Rattle.replay.specs.declared.Entry.{Entry}
-use Rattle.replay.specs.declared.Entry.TheVariants.{Unread, Run}
+use Rattle.reassembly.specs.declared.Verdict.{Verdict}
+use Rattle.framelog.specs.declared.Reason.{Reason}
 use Rattle.replay.specs.declared.Listed.{Listed}
 use Rattle.replay.specs.declared.Player.{Player}
 use Rattle.hoursquall.specs.Reassembly.{Lent, state_of_def, block_of, verdict_number, words_after, block_after}
 
 -- the number of the record's refusal, else that of what the reassembly answers
-abbrev pub played_number : Entry → ℕ
-played_number (Unread reason) = Layout.number_of reason
-played_number (Run verdict) = verdict_number verdict
+abbrev pub played_number : Result Verdict Reason → ℕ
+played_number (Err reason) = Layout.number_of reason
+played_number (Ok verdict) = verdict_number verdict
 
 -- a record that is refused leaves the state's block and the words as they were lent, else they are as the reassembly's step leaves them
-abbrev pub played_block : Entry → State → List ℕ → List ℕ
-played_block (Unread reason) state before = before
-played_block (Run verdict) state before = block_after (verdict_number verdict) state before
+abbrev pub played_block : Result Verdict Reason → State → List ℕ → List ℕ
+played_block (Err reason) state before = before
+played_block (Ok verdict) state before = block_after (verdict_number verdict) state before
 
-abbrev pub played_words : Entry → List ℕ → List ℕ
-played_words (Unread reason) before = before
-played_words (Run verdict) before = words_after verdict before
+abbrev pub played_words : Result Verdict Reason → List ℕ → List ℕ
+played_words (Err reason) before = before
+played_words (Ok verdict) before = words_after verdict before
 
 -- the record that the call plays
 abbrev pub staged_in : ℕ → Lent → List ℕ → Stage

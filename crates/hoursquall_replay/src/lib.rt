@@ -10,7 +10,7 @@ ghost use Rattle.hoursquall_replay.specs.Replay.{played_number, played_block, pl
 use hoursquall::messages::tell;
 use hoursquall::state::{state_of, write_state};
 use reassembly::Answer;
-use replay::{Entry, Listed, Played, Player};
+use replay::{Listed, Played, Player};
 
 // Plays one record. `state` and `words` are as for `hs_reassembly_step`.
 #[unsafe(no_mangle)]
@@ -35,27 +35,23 @@ fn tell_played(done: Played, state: &mut [u64; 8], words: &mut [u32; 5]) -> u32
     ensures state_after { state.new ≡ played_block done.entry done.state state.old }
     ensures words_after { words.new ≡ played_words done.entry words.old }
 {
-    let entry = done.entry;
-    let next = done.state;
-    match entry {
-        Entry::Unread(reason) => reason.number(),
-        Entry::Run(verdict) => tell(
-            Answer {
+    match done.entry {
+        Err(reason) => reason.number(),
+        Ok(verdict) => {
+            let answer = Answer {
                 verdict,
-                state: next,
-            },
-            state,
-            words,
-        ),
+                state: done.state,
+            };
+            tell(answer, state, words)
+        }
     }
 }
 
 fn player_of(b: [u64; 9]) -> Player
     ensures { result ≡ player_of_def b }
 {
-    let state = state_of([b[0], b[1], b[2], b[3], b[4], b[5], b[6], b[7]]);
     Player {
-        state,
+        state: state_of([b[0], b[1], b[2], b[3], b[4], b[5], b[6], b[7]]),
         number: b[8],
     }
 }
@@ -64,19 +60,9 @@ fn write_player(player: Player, block: &mut [u64; 9])
     ensures { block.new ≡ numbers_of player }
 {
     let mut b = [0u64; 8];
-    let state = player.state;
-    write_state(state, &mut b);
-    *block = [
-        b[0],
-        b[1],
-        b[2],
-        b[3],
-        b[4],
-        b[5],
-        b[6],
-        b[7],
-        player.number,
-    ];
+    write_state(player.state, &mut b);
+    block[..8].copy_from_slice(&b);
+    block[8] = player.number;
 }
 
 // Plays a part of a log and lists it as text at the start of `out`; answers how many bytes of text were written. `read`
@@ -107,9 +93,8 @@ fn tell_listed(listed: Listed, player: &mut [u64; 9], read: &mut usize) -> usize
     ensures read_after { read.new ≡ listed.read }
 {
     *read = listed.read;
-    let next = listed.player;
     if listed.read != 0 {
-        write_player(next, player);
+        write_player(listed.player, player);
     }
     listed.written
 }

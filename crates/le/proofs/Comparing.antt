@@ -10,10 +10,11 @@
 --     word_on        from a place with equal words on, what follows decides
 --     none_left      from the end on there is nothing to decide
 -- Assumes nothing.
+use Rattle.std.proofs.lemmas.Bool.{and_parts}
 use Rattle.std.proofs.Common.{◌≡◌, ℕ, zero, suc, ◌+◌, ◌<◌, ◌≤◌, Bool, true, false, ◌&&◌, eqb, List, [], ◌∷◌, length, get_or, take, drop, sym, refl, ap, ◌∙◌, ap₂, add-one, arith, length-drop, drop_of_length-le, get_or-drop, drop-cons, drop-drop, eq-eqb, ne_eqb, eqb-true}
 use Rattle.le.specs.Word.{word, AreBytes}
 use Rattle.le.specs.Compare.{same}
-use Rattle.le.proofs.Tests.{apart, never, both}
+use Rattle.le.proofs.Tests.{apart, never}
 use Rattle.le.proofs.Words.{word_same}
 
 pub same_self : (s : List ℕ) → same s s ≡ true
@@ -27,7 +28,7 @@ same_true [] [] e = refl
 same_true [] (y ∷ ys) e = never (sym e)
 same_true (x ∷ xs) [] e = never (sym e)
 same_true (x ∷ xs) (y ∷ ys) e =
-    let p = both (eqb x y) (same xs ys) e in
+    let p = and_parts (eqb x y) (same xs ys) e in
     ap₂ (λ (h : ℕ) (l : List ℕ). h ∷ l) (eqb-true x y p.0) (same_true xs ys p.1)
 
 pub equal_same : (s t : List ℕ) → s ≡ t → same s t ≡ true

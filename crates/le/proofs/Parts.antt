@@ -2,10 +2,11 @@
 --     rest           the part from `at` on is all that `drop` leaves
 --     put_rest       what is written to the part lent from `at` on follows what stands before it
 --     copied_whole   a copy of what fits
+--     copied_none    a copy of nothing, or to nothing
 --     copied_at      a copy of what fits, to the part from `at` on
 --     copied_behind  a copy to the start, then another to the part behind it
 -- Assumes nothing.
-use Rattle.std.proofs.Common.{◌≡◌, ℕ, ◌+◌, ◌-◌, ◌≤◌, List, ◌++◌, length, take, drop, sym, ap, ◌∙◌, append_assoc, append-nil, arith, length-append, length-drop, drop_of_length-le, take_all, drop-drop, take_at, drop_at}
+use Rattle.std.proofs.Common.{◌≡◌, ℕ, ◌+◌, ◌-◌, ◌≤◌, min, List, [], ◌∷◌, ◌++◌, length, take, drop, refl, sym, ap, ◌∙◌, append_assoc, append-nil, arith, length-append, length-drop, drop_of_length-le, take_all, drop-drop, take_at, drop_at}
 use borrow.Rule.Slice.PartMut.{mid_of, put_mid}
 use Rattle.le.specs.Copy.{copied}
 
@@ -18,6 +19,11 @@ put_rest d part at =
 
 pub copied_whole : (src dst : List ℕ) → length src ≤ length dst → copied src dst ≡ src ++ drop (length src) dst
 copied_whole src dst h = rw (take_all (length dst) src h)
+
+pub copied_none : (src dst : List ℕ) → min (length src) (length dst) ≡ 0 → dst ≡ copied src dst
+copied_none [] dst h = rw (take_all {A = ℕ} (length dst) [] (omega arith))
+copied_none (x ∷ src) [] h = refl
+copied_none (x ∷ src) (y ∷ dst) h = absurd (omega arith)
 
 pub copied_at : (src d part : List ℕ) (at : ℕ)
     → at + length src ≤ length d

@@ -1,19 +1,19 @@
 -- Laws of the summing loops, for every width k. A loop keeps that the sum so far and what remains are the sum of all.
---     word_byte        the i-th word of one byte is the i-th byte
 --     turn             a turn that adds a word
 --     passed           what such a loop has in the end
+--     reduced          what is reduced modulo 256 ^ k is below it
+--     quarters_whole   four quarters of whole words are all
+--     blocks_whole     blocks of 128 bytes are whole words
+--     blocks_quarters  and four quarters of whole words
 --     quarters_turn    a turn that adds a word of each quarter
 --     quarters_passed  what such a loop has in the end
 -- Assumes nothing.
-use Rattle.std.proofs.Common.{◌≡◌, ℕ, zero, suc, ◌+◌, ◌*◌, ◌%◌, ◌^◌, ◌<◌, ◌≤◌, List, length, get_or, drop, sym, refl, ap, ◌∙◌, add-zero, add_assoc, mod-eq_of_lt, one-mul, mul-zero, mul-one, mul-suc, mul-add, arith, drop_of_length-le, drop-drop}
+use Rattle.std.proofs.Common.{◌≡◌, ℕ, zero, suc, ◌+◌, ◌*◌, ◌/◌, ◌%◌, ◌^◌, ◌<◌, ◌≤◌, List, length, drop, sym, refl, ap, ◌∙◌, add-zero, add_assoc, mod-eq_of_lt, mul-zero, mul-one, mul-suc, mul-add, mul_assoc, mul_comm, mod-lt, arith, drop_of_length-le, drop-drop}
+use Rattle.std.proofs.Math.Nat.{div-add-mod, div-div-eq-div-mul, mul-mod_left}
 use native.Mathlib.Nat.{mod-add-mod, add-mul-mod_self_right, one-le-pow}
 use Rattle.le.specs.Word.{word}
 use Rattle.le.specs.Sum.{total_of, sum}
-use Rattle.le.proofs.Words.{byte_at}
 use Rattle.le.proofs.Sums.{total_none, total_step}
-
-pub word_byte : (s : List ℕ) (i : ℕ) → word 1 (drop (1 * i) s) ≡ get_or s i 0
-word_byte s i = rw (one-mul i) (byte_at s i)
 
 -- what remains from the i-th word on, added up
 abbrev pub remaining : ℕ → ℕ → List ℕ → ℕ
@@ -41,6 +41,29 @@ unfolding sum
 passed k i so_far s end fits e =
     let none : so_far % 256 ^ k ≡ total_of k s % 256 ^ k = simp (drop_of_length-le s {i = k * i} end, total_none k, add-zero) at e in
     rw (mod-eq_of_lt fits) at none
+
+pub positive_power : (k : ℕ) → 0 < 256 ^ k
+positive_power k = one-le-pow k 256 (omega arith)
+
+pub reduced : (k n m : ℕ) → n ≡ m % 256 ^ k → n < 256 ^ k
+reduced k n m e = rw e (mod-lt m (positive_power k))
+
+pub quarters_whole : (k n : ℕ) → n % (4 * k) ≡ 0 → n ≤ k * (4 * (n / k / 4))
+quarters_whole k n e =
+    let exact : n % (k * 4) ≡ 0 = rw (mul_comm 4 k) at e in
+    rw (div-div-eq-div-mul n k 4, ← mul_assoc k 4 (n / (k * 4))) (omega (arith, div-add-mod n (k * 4), exact))
+
+pub blocks_whole : (k n : ℕ) → 8 % k ≡ 0 → n * 128 ≡ n * (16 * (8 / k)) * k
+blocks_whole k n e =
+    let exact : 8 / k * k ≡ 8 = omega (arith, div-add-mod 8 k, mul_comm k (8 / k)) in
+    rw (mul_assoc n (16 * (8 / k)) k, mul_assoc 16 (8 / k) k, exact)
+
+pub blocks_quarters : (k n : ℕ) → 8 % k ≡ 0 → n * 128 % (4 * k) ≡ 0
+blocks_quarters k n e =
+    let exact : 8 / k * k ≡ 8 = omega (arith, div-add-mod 8 k, mul_comm k (8 / k)) in
+    let parts : 4 * (8 / k) * (4 * k) ≡ 128 = rw (mul_assoc 4 (8 / k) (4 * k), ← mul_assoc (8 / k) 4 k, mul_comm (8 / k) 4, mul_assoc 4 (8 / k) k, exact) in
+    let whole : n * 128 ≡ n * (4 * (8 / k)) * (4 * k) = rw (mul_assoc n (4 * (8 / k)) (4 * k), parts) in
+    rw whole (mul-mod_left (n * (4 * (8 / k))) (4 * k))
 
 -- what remains of four quarters of n words, each from its i-th word on
 abbrev pub quarters_remaining : ℕ → ℕ → ℕ → List ℕ → ℕ

@@ -1,6 +1,6 @@
--- Equations that cannot be, tests that are joined by "and" and "or", taken apart, and choices by a test.
+-- Equations that cannot be, and choices by a test.
 -- Assumes nothing.
-use Rattle.std.proofs.Common.{◌≡◌, ℕ, ◌<◌, ◌≤◌, Bool, true, false, cond, ◌&&◌, ◌||◌, ltb, sym, refl, ◌∙◌, arith, ltb-false, ltb-true, le-ltb, lt-ltb}
+use Rattle.std.proofs.Common.{◌≡◌, ℕ, ◌<◌, ◌≤◌, Bool, true, false, cond, ltb, sym, refl, ◌∙◌, arith, ltb-false, ltb-true, le-ltb, lt-ltb}
 
 -- what follows from an equation of two constructors, which `cc` turns into this one
 pub apart : {A : Type 0} → ◌≡◌ {A = ℕ} 0 1 → A
@@ -8,19 +8,6 @@ apart z = absurd (omega arith)
 
 pub never : {A : Type 0} → true ≡ false → A
 never e = apart (cc)
-
-pub both : (a b : Bool) → a && b ≡ true → (a ≡ true) × (b ≡ true)
-both true b e = (refl, e)
-both false b e = never (sym e)
-
-pub neither : (a b : Bool) → a || b ≡ false → (a ≡ false) × (b ≡ false)
-neither true b e = never e
-neither false b e = (refl, e)
-
--- the first branch is taken
-pub taken : {A : Type 0} {x : A} (y : A) (b : Bool) → b ≡ true → cond b x y ≡ x
-taken y true e = refl
-taken y false e = never (sym e)
 
 -- what is not the first branch is the second, and the test is false
 pub past : {A : Type 0} {x y z : A} (b : Bool) → (x ≡ z → ⊥) → cond b x y ≡ z → (b ≡ false) × (y ≡ z)

@@ -1,9 +1,50 @@
 // Words of 1, 2, 4 and 8 bytes: read at any place of a slice, and laid out as bytes. Bytes past the
 // end of the slice count as 0, so there is a word at every place.
-ghost use Rattle.std.specs.Prelude.{◌≡◌, ◌-◌, ◌<◌, ◌≤◌, length, drop, slice_index};
+ghost use Rattle.std.specs.Prelude.{◌≡◌, ℕ, ◌+◌, ◌-◌, ◌%◌, ◌^◌, ◌<◌, ◌≤◌, List, length, drop, slice_index};
+ghost use Rattle.std.proofs.Common.{refl, lit<};
 ghost use Rattle.le.specs.Word.{word, bytes};
 
 use crate::tail;
+
+// An unsigned number of SIZE bytes, little-endian.
+pub trait Word: Copy {
+    // Its bytes, an array of SIZE.
+    type Bytes;
+
+    const SIZE: usize;
+
+    ghost SIZE: { ℕ };
+
+    ghost number: { Self → ℕ };
+
+    ghost list: { Self.Bytes → List ℕ };
+
+    fn zero() -> Self
+        ensures { number result ≡ 0 };
+
+    // The sum, without what is carried out of the top.
+    fn wrapping_add(self, other: Self) -> Self
+        ensures { number result ≡ (number self + number other) % 256 ^ SIZE };
+
+    // The word at a place of a slice.
+    fn at(s: &[u8], at: usize) -> Self
+        ensures { number result ≡ word SIZE (drop at s.now) };
+
+    // The bytes of the word, the lowest first.
+    fn bytes(self) -> Self::Bytes
+        ensures { list result ≡ bytes SIZE (number self) };
+
+    // Whole words make up 8 bytes, so the blocks of a sum too.
+    ghost size_divides: { (0 < SIZE) × (8 % SIZE ≡ 0) };
+}
+
+// The word at a place from which on the slice has all its bytes: nothing is compared, so it is a single load.
+pub(crate) fn inner<W: Word>(s: &[u8], at: usize) -> W
+    requires { W.SIZE ≤ length s.now - at }
+    ensures { W.number result ≡ word W.SIZE (drop at s.now) }
+{
+    W::at(&s[at..at + W::SIZE], 0)
+}
 
 // The byte at `i`; 0 past the end.
 fn byte(s: &[u8], i: usize) -> u8
@@ -12,153 +53,143 @@ fn byte(s: &[u8], i: usize) -> u8
     if i < s.len() { s[i] } else { 0 }
 }
 
-// The words in a slice's first bytes. Each is one flat sum, which compiles to a single load where the
-// length is known to suffice.
-fn first_u16(s: &[u8]) -> u16
-    ensures { result ≡ word 2 s.now }
-{
-    byte(s, 0) as u16 + byte(s, 1) as u16 * 0x100
+impl Word for u8 {
+    type Bytes = [u8; 1];
+
+    const SIZE: usize = 1;
+
+    ghost SIZE = { 1 };
+
+    ghost number = { λ x. x };
+
+    ghost list = { λ array. array };
+
+    fn zero() -> u8 {
+        0
+    }
+
+    fn wrapping_add(self, other: u8) -> u8 {
+        u8::wrapping_add(self, other)
+    }
+
+    fn at(s: &[u8], at: usize) -> u8 {
+        byte(s, at)
+    }
+
+    #[tactic(auto, unfolding(crate::specs::Word::bytes))]
+    fn bytes(self) -> [u8; 1] {
+        u8::to_le_bytes(self)
+    }
+
+    ghost size_divides = { (lit< tt, refl) };
 }
 
-pub(crate) fn first_u32(s: &[u8]) -> u32
-    ensures { result ≡ word 4 s.now }
-{
-    byte(s, 0) as u32
-        + byte(s, 1) as u32 * 0x100
-        + byte(s, 2) as u32 * 0x1_0000
-        + byte(s, 3) as u32 * 0x100_0000
+impl Word for u16 {
+    type Bytes = [u8; 2];
+
+    const SIZE: usize = 2;
+
+    ghost SIZE = { 2 };
+
+    ghost number = { λ x. x };
+
+    ghost list = { λ array. array };
+
+    fn zero() -> u16 {
+        0
+    }
+
+    fn wrapping_add(self, other: u16) -> u16 {
+        u16::wrapping_add(self, other)
+    }
+
+    // Byte by byte, which compiles to a single load where the slice is known to have the bytes; so at `u32`.
+    fn at(s: &[u8], at: usize) -> u16 {
+        let rest = tail(s, at);
+        u16::from_le_bytes([byte(rest, 0), byte(rest, 1)])
+    }
+
+    #[tactic(auto, unfolding(crate::specs::Word::bytes))]
+    fn bytes(self) -> [u8; 2] {
+        u16::to_le_bytes(self)
+    }
+
+    ghost size_divides = { (lit< tt, refl) };
 }
 
-// A byte that the slice has, and the words of four and eight of them: nothing is compared, so each is a single load.
-fn byte_in(s: &[u8], i: usize) -> u8
-    requires { i < length s.now }
-    ensures { result ≡ slice_index s.now i }
-{
-    s[i]
+impl Word for u32 {
+    type Bytes = [u8; 4];
+
+    const SIZE: usize = 4;
+
+    ghost SIZE = { 4 };
+
+    ghost number = { λ x. x };
+
+    ghost list = { λ array. array };
+
+    fn zero() -> u32 {
+        0
+    }
+
+    fn wrapping_add(self, other: u32) -> u32 {
+        u32::wrapping_add(self, other)
+    }
+
+    fn at(s: &[u8], at: usize) -> u32 {
+        let rest = tail(s, at);
+        u32::from_le_bytes([byte(rest, 0), byte(rest, 1), byte(rest, 2), byte(rest, 3)])
+    }
+
+    #[tactic(auto, unfolding(crate::specs::Word::bytes))]
+    fn bytes(self) -> [u8; 4] {
+        u32::to_le_bytes(self)
+    }
+
+    ghost size_divides = { (lit< tt, refl) };
 }
 
-fn whole_u32(s: &[u8]) -> u32
-    requires { 4 ≤ length s.now }
-    ensures { result ≡ word 4 s.now }
-{
-    byte_in(s, 0) as u32
-        + byte_in(s, 1) as u32 * 0x100
-        + byte_in(s, 2) as u32 * 0x1_0000
-        + byte_in(s, 3) as u32 * 0x100_0000
-}
+impl Word for u64 {
+    type Bytes = [u8; 8];
 
-fn whole_u64(s: &[u8]) -> u64
-    requires { 8 ≤ length s.now }
-    ensures { result ≡ word 8 s.now }
-{
-    byte_in(s, 0) as u64
-        + byte_in(s, 1) as u64 * 0x100
-        + byte_in(s, 2) as u64 * 0x1_0000
-        + byte_in(s, 3) as u64 * 0x100_0000
-        + byte_in(s, 4) as u64 * 0x1_0000_0000
-        + byte_in(s, 5) as u64 * 0x100_0000_0000
-        + byte_in(s, 6) as u64 * 0x1_0000_0000_0000
-        + byte_in(s, 7) as u64 * 0x100_0000_0000_0000
-}
+    const SIZE: usize = 8;
 
-// The word at a place from which on the slice has all its bytes.
-pub(crate) fn inner_u32(s: &[u8], at: usize) -> u32
-    requires { 4 ≤ length s.now - at }
-    ensures { result ≡ word 4 (drop at s.now) }
-{
-    whole_u32(&s[at..])
-}
+    ghost SIZE = { 8 };
 
-pub(crate) fn inner_u64(s: &[u8], at: usize) -> u64
-    requires { 8 ≤ length s.now - at }
-    ensures { result ≡ word 8 (drop at s.now) }
-{
-    whole_u64(&s[at..])
-}
+    ghost number = { λ x. x };
 
-// The word at a place of a slice.
-pub fn u8_at(s: &[u8], at: usize) -> u8
-    ensures { result ≡ word 1 (drop at s.now) }
-{
-    byte(s, at)
-}
+    ghost list = { λ array. array };
 
-pub fn u16_at(s: &[u8], at: usize) -> u16
-    ensures { result ≡ word 2 (drop at s.now) }
-{
-    first_u16(tail(s, at))
-}
+    fn zero() -> u64 {
+        0
+    }
 
-pub fn u32_at(s: &[u8], at: usize) -> u32
-    ensures { result ≡ word 4 (drop at s.now) }
-{
-    first_u32(tail(s, at))
+    fn wrapping_add(self, other: u64) -> u64 {
+        u64::wrapping_add(self, other)
+    }
+
+    fn at(s: &[u8], at: usize) -> u64 {
+        let rest = tail(s, at);
+        if 8 <= rest.len() {
+            u64::from_le_bytes([
+                rest[0], rest[1], rest[2], rest[3], rest[4], rest[5], rest[6], rest[7],
+            ])
+        } else {
+            short_u64(rest)
+        }
+    }
+
+    #[tactic(auto, unfolding(crate::specs::Word::bytes))]
+    fn bytes(self) -> [u8; 8] {
+        u64::to_le_bytes(self)
+    }
+
+    ghost size_divides = { (lit< tt, refl) };
 }
 
 // In two halves, which need not be a single load: a slice of eight bytes or more is read as a whole.
 fn short_u64(s: &[u8]) -> u64
     ensures { result ≡ word 8 s.now }
 {
-    u32_at(s, 0) as u64 + u32_at(s, 4) as u64 * 0x1_0000_0000
-}
-
-pub fn u64_at(s: &[u8], at: usize) -> u64
-    ensures { result ≡ word 8 (drop at s.now) }
-{
-    let rest = tail(s, at);
-    if 8 <= rest.len() {
-        whole_u64(rest)
-    } else {
-        short_u64(rest)
-    }
-}
-
-// The bytes of a word.
-pub fn u8_bytes(x: u8) -> [u8; 1]
-    ensures { result ≡ bytes 1 x }
-{
-    [x]
-}
-
-pub fn u16_bytes(x: u16) -> [u8; 2]
-    ensures { result ≡ bytes 2 x }
-{
-    let x1 = x / 256;
-    [(x % 256) as u8, (x1 % 256) as u8]
-}
-
-pub fn u32_bytes(x: u32) -> [u8; 4]
-    ensures { result ≡ bytes 4 x }
-{
-    let x1 = x / 256;
-    let x2 = x1 / 256;
-    let x3 = x2 / 256;
-    [
-        (x % 256) as u8,
-        (x1 % 256) as u8,
-        (x2 % 256) as u8,
-        (x3 % 256) as u8,
-    ]
-}
-
-pub fn u64_bytes(x: u64) -> [u8; 8]
-    ensures { result ≡ bytes 8 x }
-{
-    let x1 = x / 256;
-    let x2 = x1 / 256;
-    let x3 = x2 / 256;
-    let x4 = x3 / 256;
-    let x5 = x4 / 256;
-    let x6 = x5 / 256;
-    let x7 = x6 / 256;
-    [
-        (x % 256) as u8,
-        (x1 % 256) as u8,
-        (x2 % 256) as u8,
-        (x3 % 256) as u8,
-        (x4 % 256) as u8,
-        (x5 % 256) as u8,
-        (x6 % 256) as u8,
-        (x7 % 256) as u8,
-    ]
+    u32::at(s, 0) as u64 + u32::at(s, 4) as u64 * 0x1_0000_0000
 }

@@ -11,13 +11,13 @@ use lib.Dec.{ltb}
 use lib.ListN.{length, drop, length-append, length-take, length-drop}
 use lib.ListN as ListN
 use lib.Seq.{take_at, drop_at, take-take}
+use Rattle.std.specs.Prelude.{Err}
 use Rattle.le.proofs.Tests.{apart, past}
-use Rattle.notice.specs.Ring.{data_max, header_size, bad_ring, is_between, waiting, is_empty, moved, turned, stored, notice_of, id_at, length_at, damaged, is_short, taken_of}
+use Rattle.notice.specs.Ring.{data_max, header_size, bad_ring, is_between, waiting, is_empty, moved, turned, stored, notice_of, id_at, length_at, damaged, is_short, got, taken_of}
 use Rattle.notice.specs.Queue.{Notice, Operation, post_of, take_to, Words, run, end, Ring, ring_step, size, sizes, queue_step, flat, went_in, came_out, all_in, all_out}
 use Rattle.notice.specs.Statements.{Capacity, empty, RingIsQueue, PostedIsTaken, AllTaken, PostChanges, TakeChanges, DamagedStays}
 use Rattle.notice.specs.declared.Positions.{Positions}
 use Rattle.notice.specs.declared.Reason.TheVariants.{Damaged, OutputShort}
-use Rattle.notice.specs.declared.Taken.TheVariants.{Notice as Got, Refused as NotTaken}
 use Rattle.notice.proofs.Turning.{length_turned, length_stored, turned_stored}
 use Rattle.notice.proofs.Answers.{good, between, waits_between, waits_round, waits_less, moved_inside, moved_past, room_left, accepted, within_waiting, take_damaged, answered}
 use Rattle.notice.proofs.Queue.{length_notice, length_flat, moved_none, post_stands, Holds, Keeps, waits, post_keeps, take_keeps}
@@ -175,16 +175,16 @@ take_changes ring at out id n next e =
     let c = length ring in
     let known = answered ring at out id n next e in
     let legal = good c at known.ok in
-    let n_is : n ≡ length_at ring at = cc in
+    let n_is = known.n_is in
     let waits = within_waiting ring at known.sound in
     let some = waits_less c at legal.read legal.write in
     let inside = ltb-false (length out) (length_at ring at) known.room in
     let body = ListN.take n (drop header_size (turned at.read ring)) in
     let count : length body ≡ n = simp (length-take, length-drop, length-append) (omega arith) in
     record {
-      id_is = cc;
+      id_is = known.id_is;
       n_is = n_is;
-      inside = omega arith;
+      inside = omega (arith, n_is);
       same_length = rw e (simp (length-append, length-drop) (omega arith));
       first = rw e (take_at body (drop n out) n count);
       rest = rw e (drop_at body (drop n out) n count);
@@ -200,10 +200,10 @@ damaged_stays ring at out other e =
     take_damaged ring at other legal.0 some.0 (go (damaged ring at) some.1)
   where
     go : (d : Bool)
-        → cond d (NotTaken Damaged)
-        (cond (is_short ring at out) (NotTaken OutputShort)
-        (Got (id_at ring at) (length_at ring at) (record { read = moved (length ring) at.read (header_size + length_at ring at); write = at.write })))
-        ≡ NotTaken Damaged
+        → cond d (Err Damaged)
+        (cond (is_short ring at out) (Err OutputShort)
+        (got (id_at ring at) (length_at ring at) (record { read = moved (length ring) at.read (header_size + length_at ring at); write = at.write })))
+        ≡ Err Damaged
         → d ≡ true
     go true q = refl
     go false q = let answers = (past (is_short ring at out) (λ z. apart (cc)) q).1 in apart (cc)

@@ -1,16 +1,13 @@
 -- Lists of posts and takes, on the ring and on the queue that it is: "From an empty ring, any sequence of posts and takes answers as a first-in first-out
 -- queue of notices with that room." (document 01, "The notice ring")
 -- Assumes nothing.
-use Rattle.std.specs.Prelude.{ℕ, ◌+◌, ◌-◌, ◌^◌, ◌<◌, cond, List, [], ◌∷◌, ◌++◌, ltb, length, drop}
+use Rattle.std.specs.Prelude.{ℕ, ◌+◌, ◌-◌, ◌^◌, ◌<◌, cond, List, [], ◌∷◌, ◌++◌, ltb, length, drop, Result, Ok, Err}
 use Rattle.std.proofs.Math.ListN as ListN
 use Rattle.notice.specs.Ring.{data_max, header_size, notice_of, posted, ring_after, taken_of, output_after}
 use Rattle.notice.specs.declared.Positions.{Positions}
 use Rattle.notice.specs.declared.Reason.{Reason}
 use Rattle.notice.specs.declared.Reason.TheVariants.{Empty, OutputShort, DataLong, Full}
-use Rattle.notice.specs.declared.Posted.{Posted}
-use Rattle.notice.specs.declared.Posted.TheVariants.{Stored, Refused as NotPosted}
 use Rattle.notice.specs.declared.Taken.{Taken}
-use Rattle.notice.specs.declared.Taken.TheVariants.{Notice as Got, Refused as NotTaken}
 
 pub record Notice : Type 0 where
   pub id : ℕ
@@ -54,19 +51,22 @@ pub record Ring : Type 0 where
   pub bytes : List ℕ
   pub at : Positions
 
-abbrev pub post_step : Posted → Ring → Notice → Step Ring
-post_step (Stored next) r n =
-    record { seen = accepted; next = record { bytes = ring_after (Stored next) r.bytes r.at n.id n.body; at = next } }
-post_step (NotPosted reason) r n =
+abbrev pub post_step : Result Positions Reason → Ring → Notice → Step Ring
+post_step (Ok next) r n =
+    record { seen = accepted; next = record { bytes = ring_after (Ok next) r.bytes r.at n.id n.body; at = next } }
+post_step (Err reason) r n =
     record {
       seen = rejected reason;
-      next = record { bytes = ring_after (NotPosted reason) r.bytes r.at n.id n.body; at = r.at };
+      next = record { bytes = ring_after (Err reason) r.bytes r.at n.id n.body; at = r.at };
     }
 
-abbrev pub take_step : Taken → Ring → List ℕ → Step Ring
-take_step (Got id n next) r out =
-    record { seen = given id n (output_after (Got id n next) r.bytes r.at out); next = record { bytes = r.bytes; at = next } }
-take_step (NotTaken reason) r out = record { seen = nothing reason (output_after (NotTaken reason) r.bytes r.at out); next = r }
+abbrev pub take_step : Result Taken Reason → Ring → List ℕ → Step Ring
+take_step (Ok taken) r out =
+    record {
+      seen = given taken.id taken.length (output_after (Ok taken) r.bytes r.at out);
+      next = record { bytes = r.bytes; at = taken.positions };
+    }
+take_step (Err reason) r out = record { seen = nothing reason (output_after (Err reason) r.bytes r.at out); next = r }
 
 abbrev pub ring_step : Ring → Operation → Step Ring
 ring_step r (post_of n) = post_step (posted r.bytes r.at n.id n.body) r n

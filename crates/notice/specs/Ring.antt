@@ -1,14 +1,11 @@
 -- Document 01, "The notice ring" (001, tables 30 and 31): one post and one take.
 -- Assumes nothing.
-use Rattle.std.specs.Prelude.{ℕ, ◌+◌, ◌-◌, ◌%◌, Bool, cond, not, ◌||◌, List, ◌++◌, ltb, leb, eqb, length, take, drop}
+use Rattle.std.specs.Prelude.{ℕ, ◌+◌, ◌-◌, ◌%◌, Bool, cond, not, ◌||◌, List, ◌++◌, ltb, leb, eqb, length, take, drop, Result, Ok, Err}
 use Rattle.le.specs.Word.{word, bytes}
 use Rattle.notice.specs.declared.Positions.{Positions}
 use Rattle.notice.specs.declared.Reason.{Reason}
 use Rattle.notice.specs.declared.Reason.TheVariants.{BadRing, Empty, Damaged, OutputShort, DataLong, Full}
-use Rattle.notice.specs.declared.Posted.{Posted}
-use Rattle.notice.specs.declared.Posted.TheVariants.{Stored, Refused as NotPosted}
 use Rattle.notice.specs.declared.Taken.{Taken}
-use Rattle.notice.specs.declared.Taken.TheVariants.{Notice, Refused as NotTaken}
 
 abbrev pub number_of : Reason → ℕ
 number_of BadRing = 20
@@ -96,17 +93,17 @@ abbrev pub notice_of : ℕ → List ℕ → List ℕ
 notice_of id body = bytes 4 id ++ (bytes 4 (length body) ++ body)
 
 -- what a post answers; "Only whole notices move a position."
-unfoldable pub posted : List ℕ → Positions → ℕ → List ℕ → Posted
+unfoldable pub posted : List ℕ → Positions → ℕ → List ℕ → Result Positions Reason
 posted ring at id body =
-    cond (bad_ring (length ring) at) (NotPosted BadRing)
-    (cond (is_long (length body)) (NotPosted DataLong)
-    (cond (is_full (length ring) at (length body)) (NotPosted Full)
-    (Stored (record { read = at.read; write = moved (length ring) at.write (header_size + length body) }))))
+    cond (bad_ring (length ring) at) (Err BadRing)
+    (cond (is_long (length body)) (Err DataLong)
+    (cond (is_full (length ring) at (length body)) (Err Full)
+    (Ok (record { read = at.read; write = moved (length ring) at.write (header_size + length body) }))))
 
 -- what the ring holds after that answer
-abbrev pub ring_after : Posted → List ℕ → Positions → ℕ → List ℕ → List ℕ
-ring_after (Stored next) ring at id body = stored at.write (notice_of id body) ring
-ring_after (NotPosted reason) ring at id body = ring
+abbrev pub ring_after : Result Positions Reason → List ℕ → Positions → ℕ → List ℕ → List ℕ
+ring_after (Ok next) ring at id body = stored at.write (notice_of id body) ring
+ring_after (Err reason) ring at id body = ring
 
 -- the header of the oldest notice, read round the ring
 abbrev pub id_at : List ℕ → Positions → ℕ
@@ -129,17 +126,21 @@ damaged ring at = lacks_header ring at || (is_long (length_at ring at) || lacks_
 abbrev pub is_short : List ℕ → Positions → List ℕ → Bool
 is_short ring at out = ltb (length out) (length_at ring at)
 
+-- the answer to a take that gives a notice: Notify ID, Data Length, and the positions after it
+abbrev pub got : ℕ → ℕ → Positions → Result Taken Reason
+got id n next = Ok (record { id = id; length = n; positions = next })
+
 -- what a take answers
-unfoldable pub taken_of : List ℕ → Positions → List ℕ → Taken
+unfoldable pub taken_of : List ℕ → Positions → List ℕ → Result Taken Reason
 taken_of ring at out =
-    cond (bad_ring (length ring) at) (NotTaken BadRing)
-    (cond (is_empty at) (NotTaken Empty)
-    (cond (damaged ring at) (NotTaken Damaged)
-    (cond (is_short ring at out) (NotTaken OutputShort)
-    (Notice (id_at ring at) (length_at ring at)
+    cond (bad_ring (length ring) at) (Err BadRing)
+    (cond (is_empty at) (Err Empty)
+    (cond (damaged ring at) (Err Damaged)
+    (cond (is_short ring at out) (Err OutputShort)
+    (got (id_at ring at) (length_at ring at)
     (record { read = moved (length ring) at.read (header_size + length_at ring at); write = at.write })))))
 
 -- what the output holds after that answer: the data, then its own bytes
-abbrev pub output_after : Taken → List ℕ → Positions → List ℕ → List ℕ
-output_after (Notice id n next) ring at out = take n (drop header_size (turned at.read ring)) ++ drop n out
-output_after (NotTaken reason) ring at out = out
+abbrev pub output_after : Result Taken Reason → List ℕ → Positions → List ℕ → List ℕ
+output_after (Ok taken) ring at out = take taken.length (drop header_size (turned at.read ring)) ++ drop taken.length out
+output_after (Err reason) ring at out = out

@@ -1,11 +1,9 @@
 -- What is proved of one post and one take, and of lists of them. The proofs are in `proofs/Theorem.antt`, under the names given here.
 -- Assumes nothing.
-use Rattle.std.specs.Prelude.{ℕ, ◌+◌, ◌%◌, ◌≤◌, ◌<◌, ◌≡◌, List, [], ◌++◌, length, take, drop}
+use Rattle.std.specs.Prelude.{ℕ, ◌+◌, ◌%◌, ◌≤◌, ◌<◌, ◌≡◌, List, [], ◌++◌, length, take, drop, Ok, Err}
 use Rattle.le.specs.Word.{word}
-use Rattle.notice.specs.Ring.{header_size, waiting, moved, turned, notice_of, posted, ring_after, taken_of, output_after}
+use Rattle.notice.specs.Ring.{header_size, waiting, moved, turned, notice_of, posted, ring_after, got, taken_of, output_after}
 use Rattle.notice.specs.declared.Positions.{Positions}
-use Rattle.notice.specs.declared.Posted.TheVariants.{Stored}
-use Rattle.notice.specs.declared.Taken.TheVariants.{Notice as Got, Refused as NotTaken}
 use Rattle.notice.specs.declared.Reason.TheVariants.{Damaged}
 use Rattle.notice.specs.Queue.{Notice, Operation, Words, run, end, Ring, ring_step, queue_step, flat, all_in, all_out}
 
@@ -66,7 +64,7 @@ pub record PostChanged (ring : List ℕ) (at : Positions) (id : ℕ) (body : Lis
 abbrev pub PostChanges : Type 0
 PostChanges =
     (ring : List ℕ) (at : Positions) (id : ℕ) (body : List ℕ) (next : Positions)
-    → posted ring at id body ≡ Stored next
+    → posted ring at id body ≡ Ok next
     → PostChanged ring at id body next (ring_after (posted ring at id body) ring at id body)
 
 -- `take_changes`. A take answers the Notify ID and the Data Length n that stand at the read position, and changes the output's first n bytes, which are the
@@ -84,12 +82,12 @@ pub record TakeChanged (ring : List ℕ) (at : Positions) (out : List ℕ) (id n
 abbrev pub TakeChanges : Type 0
 TakeChanges =
     (ring : List ℕ) (at : Positions) (out : List ℕ) (id n : ℕ) (next : Positions)
-    → taken_of ring at out ≡ Got id n next
+    → taken_of ring at out ≡ got id n next
     → TakeChanged ring at out id n next (output_after (taken_of ring at out) ring at out)
 
 -- `damaged_stays`. A 22 changes nothing, so every take from that ring gets 22, whatever its output.
 abbrev pub DamagedStays : Type 0
 DamagedStays =
     (ring : List ℕ) (at : Positions) (out other : List ℕ)
-    → taken_of ring at out ≡ NotTaken Damaged
-    → taken_of ring at other ≡ NotTaken Damaged
+    → taken_of ring at out ≡ Err Damaged
+    → taken_of ring at other ≡ Err Damaged

@@ -2,20 +2,22 @@
 // its last byte to its first.
 #![tactic(auto)]
 
-ghost use Rattle.std.specs.Prelude.{◌≡◌, ◌≤◌, ◌<◌, ◌++◌, length, drop};
+ghost use Rattle.std.specs.Prelude.{◌≡◌, ◌≤◌, ◌<◌, ◌++◌, true, false, length, drop, IfOk, IfErr};
 ghost use Rattle.std.proofs.Math.ListN as ListN;
 ghost use Rattle.le.specs.Word.{word, bytes};
-ghost use Rattle.notice.specs.Ring.{number_of, header_size, ring_max, bad_ring, waiting, is_full, moved, turned, stored, posted, ring_after, taken_of, output_after};
+ghost use Rattle.notice.specs.Ring.{number_of, header_size, ring_min, ring_max, bad_ring, waiting, is_full, moved, turned, stored, posted, ring_after, taken_of, output_after};
+
+use le::Word;
 
 // Where the oldest notice starts, and where the next one will: offsets in the ring. Equal means empty.
-#[derive(Clone, Copy)]
+#[derive(Clone, Copy, Debug, PartialEq, Eq)]
 pub struct Positions {
     pub read: usize,
     pub write: usize,
 }
 
 // Why a post or a take is refused.
-#[derive(Clone, Copy)]
+#[derive(Clone, Copy, Debug, PartialEq, Eq)]
 pub enum Reason {
     // 20: the ring's length or a position is not legal.
     BadRing,
@@ -31,18 +33,12 @@ pub enum Reason {
     Full,
 }
 
-#[derive(Clone, Copy)]
-pub enum Posted {
-    // The positions after it.
-    Stored(Positions),
-    Refused(Reason),
-}
-
-#[derive(Clone, Copy)]
-pub enum Taken {
-    // Notify ID, Data Length, and the positions after it; the data is the output's first bytes.
-    Notice(u32, usize, Positions),
-    Refused(Reason),
+// A notice that was taken: Notify ID, Data Length, and the positions after it. The data is the output's first bytes.
+#[derive(Clone, Copy, Debug, PartialEq, Eq)]
+pub struct Taken {
+    pub id: u32,
+    pub length: usize,
+    pub positions: Positions,
 }
 
 // A notice's Notify ID and Data Length.
@@ -72,58 +68,74 @@ impl Reason {
     }
 }
 
-// Whether a ring of capacity c, or a position in it, is not legal.
-fn is_bad(c: usize, at: Positions) -> bool
-    ensures { result ≡ bad_ring c at }
-{
-    if c < RING_MIN {
-        return true;
-    }
-    if RING_MAX < c {
-        return true;
-    }
-    if c % RING_UNIT != 0 {
-        return true;
-    }
-    if c <= at.read {
-        return true;
-    }
-    c <= at.write
+// The capacity of a legal ring, and the positions in it.
+#[derive(Clone, Copy)]
+struct Geometry {
+    capacity: usize,
+    at: Positions,
+    ghost least: { ring_min ≤ capacity },
+    ghost most: { capacity ≤ ring_max },
+    ghost read_inside: { at.read < capacity },
+    ghost write_inside: { at.write < capacity },
 }
 
-// How many bytes wait.
-fn count_waiting(c: usize, at: Positions) -> usize
-    requires { (at.read < c) × (at.write < c) × (c ≤ ring_max) }
-    ensures { result ≡ waiting c at }
-{
-    if at.read <= at.write {
-        return at.write - at.read;
+impl Geometry {
+    // Of a ring that is not legal there is none.
+    #[tactic(auto, unfolding(crate::specs::Ring::bad_ring))]
+    fn new(capacity: usize, at: Positions) -> Result<Self, Reason>
+        ensures legal { IfOk result (λ geometry. (bad_ring capacity at ≡ false) × (geometry.capacity ≡ capacity) × (geometry.at ≡ at)) }
+        ensures bad { IfErr result (λ reason. (bad_ring capacity at ≡ true) × (reason ≡ Reason.BadRing)) }
+    {
+        if capacity < RING_MIN
+            || RING_MAX < capacity
+            || capacity % RING_UNIT != 0
+            || capacity <= at.read
+            || capacity <= at.write
+        {
+            return Err(Reason::BadRing);
+        }
+        Ok(Geometry { capacity, at })
     }
-    c - at.read + at.write
-}
 
-// Whether a notice with n bytes of data does not fit what is free.
-fn lacks_room(c: usize, at: Positions, n: usize) -> bool
-    requires { (at.read < c) × (at.write < c) × (c ≤ ring_max) }
-    ensures { result ≡ is_full c at n }
-{
-    let free = c - 1 - count_waiting(c, at);
-    if free < HEADER_SIZE {
-        return true;
+    // How many bytes wait.
+    #[tactic(auto, unfolding(crate::specs::Ring::waiting))]
+    fn waiting(self) -> usize
+        ensures value { result ≡ waiting self.capacity self.at }
+        ensures below { result < self.capacity }
+    {
+        if self.at.read <= self.at.write {
+            self.at.write - self.at.read
+        } else {
+            self.capacity - self.at.read + self.at.write
+        }
     }
-    free - HEADER_SIZE < n
+
+    // Whether a notice with n bytes of data does not fit what is free.
+    fn lacks_room(self, n: usize) -> bool
+        ensures { result ≡ is_full self.capacity self.at n }
+    {
+        let free = self.capacity - 1 - self.waiting();
+        free < HEADER_SIZE.saturating_add(n)
+    }
+
+    // A position moved on by n, past the last byte to the first.
+    #[tactic(auto, using(crate::proofs::Answers::moved_inside, crate::proofs::Answers::moved_past))]
+    fn moved(self, at: usize, n: usize) -> usize
+        requires { (at < self.capacity) × (n ≤ self.capacity) }
+        ensures value { result ≡ moved self.capacity at n }
+        ensures below { result < self.capacity }
+    {
+        let next = at + n;
+        if next < self.capacity {
+            next
+        } else {
+            next - self.capacity
+        }
+    }
 }
 
-// A position moved on by n, past the last byte to the first.
-fn move_on(c: usize, at: usize, n: usize) -> usize
-    requires { (at < c) × (n ≤ c) × (c ≤ ring_max) }
-    ensures { result ≡ moved c at n }
-{
-    let next = at + n;
-    if next < c { next } else { next - c }
-}
-
-// Writes bytes to the ring from a place on: first what fits before its end, then the rest at its start.
+// Writes bytes to the ring from a place on: first what fits before its end, then the rest at its start. Ring and place
+// are two parameters, here and in the two that read: no one struct holds a ring that is lent here to be written, there to be read.
 fn put_round(src: &[u8], at: usize, ring: &mut [u8])
     requires { (at ≤ length ring.old) × (length src.now ≤ length ring.old) }
     ensures { ring.new ≡ stored at src.now ring.old }
@@ -148,96 +160,78 @@ fn get_round(ring: &[u8], at: usize, out: &mut [u8])
     le::copy(ring, &mut out[room..]);
 }
 
-// What stands before a notice's data.
-fn header(id: u32, n: u32) -> [u8; 8]
-    ensures { result ≡ bytes 4 id ++ bytes 4 n }
+// What stands before a notice's data: two words, laid out as one, so that the copy to the ring reads what one store wrote.
+fn header(id: u32, length: u32) -> [u8; HEADER_SIZE]
+    ensures { result ≡ bytes 4 id ++ bytes 4 length }
 {
-    let i = le::word::u32_bytes(id);
-    let l = le::word::u32_bytes(n);
-    [i[0], i[1], i[2], i[3], l[0], l[1], l[2], l[3]]
+    (u64::from(id) + u64::from(length) * 0x1_0000_0000).bytes()
 }
 
 // Posts a notice behind those that wait. It changes the notice's bytes and the write position; a refusal
 // changes nothing.
-pub fn post(ring: &mut [u8], at: Positions, id: u32, body: &[u8]) -> Posted
+#[tactic(auto, unfolding(crate::specs::Ring::posted))]
+pub fn post(ring: &mut [u8], at: Positions, id: u32, body: &[u8]) -> Result<Positions, Reason>
     ensures value { result ≡ posted ring.old at id body.now }
     ensures ring_after { ring.new ≡ ring_after result ring.old at id body.now }
 {
-    let c = ring.len();
-    if is_bad(c, at) {
-        return Posted::Refused(Reason::BadRing);
+    let geometry = Geometry::new(ring.len(), at)?;
+    if DATA_MAX < body.len() {
+        return Err(Reason::DataLong);
     }
-    let long = DATA_MAX < body.len();
-    let full = lacks_room(c, at, body.len());
-    if long {
-        return Posted::Refused(Reason::DataLong);
+    if geometry.lacks_room(body.len()) {
+        return Err(Reason::Full);
     }
-    if full {
-        return Posted::Refused(Reason::Full);
-    }
-    let head = header(id, body.len() as u32);
-    put_round(&head, at.write, ring);
-    put_round(body, move_on(c, at.write, HEADER_SIZE), ring);
-    Posted::Stored(Positions {
+    put_round(&header(id, body.len() as u32), at.write, ring);
+    put_round(body, geometry.moved(at.write, HEADER_SIZE), ring);
+    Ok(Positions {
         read: at.read,
-        write: move_on(c, at.write, HEADER_SIZE + body.len()),
+        write: geometry.moved(at.write, HEADER_SIZE + body.len()),
     })
 }
 
 // The Notify ID and the Data Length that stand at a place.
-#[derive(Clone, Copy)]
-struct Head {
-    id: u32,
-    n: usize,
-}
-
-fn read_head(ring: &[u8], at: usize) -> Head
+fn read_header(ring: &[u8], at: usize) -> (u32, usize)
     requires { (at ≤ length ring.now) × (header_size ≤ length ring.now) }
-    ensures { (result.id ≡ word 4 (turned at ring.now)) × (result.n ≡ word 4 (drop 4 (turned at ring.now))) }
+    ensures { (result.0 ≡ word 4 (turned at ring.now)) × (result.1 ≡ word 4 (drop 4 (turned at ring.now))) }
 {
-    let mut head = [0u8; 8];
-    get_round(ring, at, &mut head);
-    Head {
-        id: le::word::u32_at(&head, 0),
-        n: le::word::u32_at(&head, 4) as usize,
-    }
+    let mut header = [0u8; HEADER_SIZE];
+    get_round(ring, at, &mut header);
+    (u32::at(&header, 0), u32::at(&header, 4) as usize)
 }
 
 // Takes the oldest notice. It changes the read position and the first bytes of the output; a refusal changes
 // nothing.
-pub fn take(ring: &[u8], at: Positions, out: &mut [u8]) -> Taken
+#[tactic(auto, unfolding(crate::specs::Ring::taken_of))]
+pub fn take(ring: &[u8], at: Positions, out: &mut [u8]) -> Result<Taken, Reason>
     ensures value { result ≡ taken_of ring.now at out.old }
     ensures out_after { out.new ≡ output_after result ring.now at out.old }
 {
-    let c = ring.len();
-    if is_bad(c, at) {
-        return Taken::Refused(Reason::BadRing);
-    }
+    let geometry = Geometry::new(ring.len(), at)?;
     if at.read == at.write {
-        return Taken::Refused(Reason::Empty);
+        return Err(Reason::Empty);
     }
-    let waits = count_waiting(c, at);
-    if waits < HEADER_SIZE {
-        return Taken::Refused(Reason::Damaged);
+    let behind = geometry
+        .waiting()
+        .checked_sub(HEADER_SIZE)
+        .ok_or(Reason::Damaged)?;
+    let (id, length) = read_header(ring, at.read);
+    if DATA_MAX < length || behind < length {
+        return Err(Reason::Damaged);
     }
-    let head = read_head(ring, at.read);
-    let n = head.n;
-    if DATA_MAX < n {
-        return Taken::Refused(Reason::Damaged);
+    if out.len() < length {
+        return Err(Reason::OutputShort);
     }
-    if waits - HEADER_SIZE < n {
-        return Taken::Refused(Reason::Damaged);
-    }
-    if out.len() < n {
-        return Taken::Refused(Reason::OutputShort);
-    }
-    get_round(ring, move_on(c, at.read, HEADER_SIZE), &mut out[..n]);
-    Taken::Notice(
-        head.id,
-        n,
-        Positions {
-            read: move_on(c, at.read, HEADER_SIZE + n),
+    get_round(
+        ring,
+        geometry.moved(at.read, HEADER_SIZE),
+        &mut out[..length],
+    );
+    Ok(Taken {
+        id,
+        length,
+        positions: Positions {
+            read: geometry.moved(at.read, HEADER_SIZE + length),
             write: at.write,
         },
-    )
+    })
 }

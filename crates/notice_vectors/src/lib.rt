@@ -1,96 +1,98 @@
 // The numbers to check by for the notice ring, posts and takes, and every refusal of theirs: a part of the program `vectors`.
 #![tactic(auto)]
 
-use notice::{Positions, Posted, Taken};
+use notice::{Positions, Taken};
+use report::{Bytes, Lossy, Refused};
+use std::io;
 
-fn say_positions(rt: &impl Print, at: Positions) -> Positions {
-    report::pattern(rt, b"; read %, write %", &[at.read as u64, at.write as u64]);
-    at
-}
-
-fn post(
-    rt: &impl Print,
-    what: &[u8],
-    ring: &mut [u8],
+// A ring of that many bytes, and where its notices stand.
+#[derive(Drop)]
+struct Queue<const SIZE: usize> {
+    ring: [u8; SIZE],
     at: Positions,
-    id: u32,
-    body: &[u8],
-) -> Positions {
-    report::start_line(rt, what);
-    match notice::post(ring, at, id, body) {
-        Posted::Stored(after) => {
-            report::text(rt, b": done");
-            say_positions(rt, after)
-        }
-        Posted::Refused(reason) => {
-            report::refusal(rt, reason.number());
-            say_positions(rt, at)
+}
+
+impl<const SIZE: usize> Queue<SIZE> {
+    // A ring of zeros.
+    fn new(read: usize, write: usize) -> Self {
+        Queue {
+            ring: [0; SIZE],
+            at: Positions { read, write },
         }
     }
-}
 
-fn say_taken(rt: &impl Print, taken: Taken, out: &[u8], before: Positions) -> Positions {
-    match taken {
-        Taken::Notice(id, n, after) => {
-            report::pattern(rt, b": notice %, data", &[id as u64]);
-            report::bytes(rt, le::head(out, n));
-            say_positions(rt, after)
+    fn post(&mut self, rt: &impl Print, what: &str, id: u32, body: &[u8]) -> io::Result<()> {
+        print!(rt; "  post, {what}: ")?;
+        match notice::post(&mut self.ring, self.at, id, body) {
+            Ok(after) => {
+                self.at = after;
+                print!(rt; "done")?;
+            }
+            Err(reason) => print!(rt; "{}", Refused(reason.number()))?,
         }
-        Taken::Refused(reason) => {
-            report::refusal(rt, reason.number());
-            say_positions(rt, before)
-        }
+        self.print_positions(rt)
     }
-}
 
-fn take(rt: &impl Print, what: &[u8], ring: &[u8], at: Positions, out: &mut [u8]) -> Positions {
-    report::start_line(rt, what);
-    let taken = notice::take(ring, at, out);
-    say_taken(rt, taken, out, at)
-}
+    fn take(&mut self, rt: &impl Print, what: &str, out: &mut [u8]) -> io::Result<()> {
+        print!(rt; "  take, {what}: ")?;
+        match notice::take(&self.ring, self.at, out) {
+            Ok(taken) => {
+                let Taken {
+                    id,
+                    length,
+                    positions,
+                } = taken;
+                self.at = positions;
+                print!(rt; "notice {id}, data{}", Bytes(le::head(out, length)))?;
+            }
+            Err(reason) => print!(rt; "{}", Refused(reason.number()))?,
+        }
+        self.print_positions(rt)
+    }
 
-fn at(read: usize, write: usize) -> Positions {
-    Positions { read, write }
+    fn print_positions(&self, rt: &impl Print) -> io::Result<()> {
+        let Positions { read, write } = self.at;
+        println!(rt; "; read {read}, write {write}")
+    }
 }
 
 // The largest notice that fits.
-fn run_full(rt: &impl Print, ring: &mut [u8]) -> Positions {
-    let eight = b"\x01\x02\x03\x04\x05\x06\x07\x08";
-    let none = post(rt, b"post, notice 7, 8 bytes", ring, at(0, 0), 7, eight);
-    let seven = le::head(eight, 7);
-    post(rt, b"post, notice 7, 7 bytes", ring, none, 7, seven)
-}
-
-fn run_takes(rt: &impl Print, ring: &[u8], full: Positions) -> Positions {
-    let mut out = [0u8; 8];
-    let kept = take(rt, b"take, output of 6", ring, full, &mut [0u8; 6]);
-    let empty = take(rt, b"take, output of 8", ring, kept, &mut out);
-    take(rt, b"take, output of 8", ring, empty, &mut out)
+fn run_full(rt: &impl Print, queue: &mut Queue<16>) -> io::Result<()> {
+    queue.post(rt, "notice 7, 8 bytes", 7, &[1, 2, 3, 4, 5, 6, 7, 8])?;
+    queue.post(rt, "notice 7, 7 bytes", 7, &[1, 2, 3, 4, 5, 6, 7])?;
+    queue.take(rt, "output of 6", &mut [0; 6])?;
+    queue.take(rt, "output of 8", &mut [0; 8])?;
+    queue.take(rt, "output of 8", &mut [0; 8])
 }
 
 // A notice that runs past the ring's last byte.
-fn run_round(rt: &impl Print, ring: &mut [u8], empty: Positions) -> Positions {
-    let round = post(rt, b"post, notice 8, 2 bytes", ring, empty, 8, &[1, 2]);
-    report::start_line(rt, b"the ring:");
-    report::bytes(rt, ring);
-    take(rt, b"take, output of 8", ring, round, &mut [0u8; 8])
+fn run_round(rt: &impl Print, queue: &mut Queue<16>) -> io::Result<()> {
+    queue.post(rt, "notice 8, 2 bytes", 8, &[1, 2])?;
+    println!(rt; "  the ring:{}", Bytes(&queue.ring))?;
+    queue.take(rt, "output of 8", &mut [0; 8])
 }
 
 // Data that is too long, and positions and a ring that no queue comes to.
-fn run_refusals(rt: &impl Print, long: &[u8], now: Positions) {
-    let mut ring = [0u8; 16];
-    let mut out = [0u8; 8];
-    post(rt, b"post, notice 9, 1025 bytes", &mut ring, now, 9, long);
-    take(rt, b"take, 7 bytes wait", &ring, at(9, 0), &mut out);
-    post(rt, b"post, position 16", &mut ring, at(16, 0), 9, long);
-    take(rt, b"take, a ring of 12", &[0u8; 12], at(0, 0), &mut out);
+fn run_refusals(rt: &impl Print, queue: &mut Queue<16>) -> io::Result<()> {
+    let long = [0; 1025];
+    queue.post(rt, "notice 9, 1025 bytes", 9, &long)?;
+    let mut waiting: Queue<16> = Queue::new(9, 0);
+    waiting.take(rt, "7 bytes wait", &mut [0; 8])?;
+    let mut past: Queue<16> = Queue::new(16, 0);
+    past.post(rt, "position 16", 9, &long)?;
+    let mut odd: Queue<12> = Queue::new(0, 0);
+    odd.take(rt, "a ring of 12", &mut [0; 8])
 }
 
+fn run_all(rt: &impl Print) -> io::Result<()> {
+    println!(rt; "Notices in a ring of 16 bytes, empty at 0")?;
+    let mut queue: Queue<16> = Queue::new(0, 0);
+    run_full(rt, &mut queue)?;
+    run_round(rt, &mut queue)?;
+    run_refusals(rt, &mut queue)
+}
+
+// A write that fails is passed over, and the next is tried.
 pub fn run(rt: &impl Print) {
-    report::text(rt, b"\nNotices in a ring of 16 bytes, empty at 0");
-    let mut ring = [0u8; 16];
-    let full = run_full(rt, &mut ring);
-    let empty = run_takes(rt, &ring, full);
-    let again = run_round(rt, &mut ring, empty);
-    run_refusals(rt, &[0u8; 1025], again);
+    let _ = run_all(&Lossy(rt));
 }

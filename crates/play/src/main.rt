@@ -7,9 +7,9 @@
 
 ghost use Rattle.std.specs.Prelude.{◌≤◌, length};
 
-use replay::{Player, Receiver};
+use replay::Player;
 use std::fs;
-use std::io::Read;
+use std::io::{self, Read};
 use std::rt::{Env, Files};
 
 // Room for any path that the system takes.
@@ -19,16 +19,18 @@ const CHUNK: usize = 65520;
 // The output's: room for the longest line of each of them, so that one call plays them all.
 const TEXT: usize = 11844;
 
-#[derive(Drop)]
-struct Turn {
-    player: Player,
-    goes_on: bool,
+// Why no more is played, though the log may go on.
+#[derive(Debug, Drop)]
+enum Stop {
+    // The lines cannot be written.
+    Output(io::Error),
+    // No record number is left.
+    Numbers,
 }
 
-fn stopped(player: Player) -> Turn {
-    Turn {
-        player,
-        goes_on: false,
+impl From<io::Error> for Stop {
+    fn from(e: io::Error) -> Stop {
+        Stop::Output(e)
     }
 }
 
@@ -40,7 +42,8 @@ fn open<R: Files + Env>(rt: &R, argument: usize) -> Option<R::File> {
     fs::open(rt, path).ok()
 }
 
-// Reads until the buffer is full, the file ends or a read fails, and answers how many bytes stand at its start.
+// Reads until the buffer is full, the file ends or a read fails, and answers how many bytes stand at its start: that is
+// why it is a loop over `read`, since `read_exact` does not tell how many it read of a file that ends.
 fn read_full(file: &mut impl Read, buffer: &mut [u8]) -> usize
     ensures { result ≤ length buffer.new }
 {
@@ -55,81 +58,65 @@ fn read_full(file: &mut impl Read, buffer: &mut [u8]) -> usize
 }
 
 // A byte more than a receiver has is read, so that a longer file is seen to be one.
-fn read_receiver(rt: &(impl Files + Env)) -> Receiver {
+fn read_receiver(rt: &(impl Files + Env)) -> Option<u32> {
     let mut file = [0u8; 5];
-    let n = match open(rt, 1) {
-        Some(mut named) => read_full(&mut named, &mut file),
-        None => 0,
-    };
+    let n = read_full(&mut open(rt, 1)?, &mut file);
     replay::receiver_in(&file[..n])
-}
-
-fn write(rt: &(impl Print + Eprint), text: &[u8]) -> bool {
-    match rt.write_all(text) {
-        Ok(()) => true,
-        Err(e) => {
-            let _ = eprintln!(rt; "standard output: {e}");
-            false
-        }
-    }
 }
 
 // Plays what was read, and writes its lines: what a call leaves unread is handed in again. A call that reads nothing
 // has no record number left.
 fn play_part(
-    rt: &(impl Print + Eprint),
+    rt: &impl Print,
     player: Player,
     part: &[u8],
     us: u32,
     buffer: &mut [u8; replay::BUFFER_SIZE],
     text: &mut [u8],
-) -> Turn {
+) -> Result<Player, Stop> {
     let mut current = player;
     let mut rest = part;
     while !rest.is_empty() {
         let listed = replay::play_chunk(current, rest, us, buffer, text);
-        let next = listed.player;
-        current = next;
-        if !write(rt, le::head(text, listed.written)) {
-            return stopped(current);
-        }
+        rt.write_all(le::head(text, listed.written))?;
         if listed.read == 0 {
-            return stopped(current);
+            return Err(Stop::Numbers);
         }
+        current = listed.player;
         rest = le::tail(rest, listed.read);
     }
-    Turn {
-        player: current,
-        goes_on: true,
-    }
+    Ok(current)
 }
 
 // A proved loop has to end, and nothing says that a file does: the turns are counted, to a number that no run reaches.
-fn play_log(rt: &(impl Print + Eprint), log: &mut impl Read, us: u32) {
+fn play_log(rt: &impl Print, log: &mut impl Read, us: u32) -> Result<(), Stop> {
     let mut buffer = [0u8; replay::BUFFER_SIZE];
     let mut chunk = [0u8; CHUNK];
     let mut text = [0u8; TEXT];
     let mut player = Player::new();
     for _ in 0..u64::MAX {
         let n = read_full(log, &mut chunk);
-        let turn = play_part(rt, player, &chunk[..n], us, &mut buffer, &mut text);
-        if !turn.goes_on || n < CHUNK {
-            return;
+        player = play_part(rt, player, &chunk[..n], us, &mut buffer, &mut text)?;
+        if n < CHUNK {
+            break;
         }
-        let next = turn.player;
-        player = next;
     }
+    Ok(())
+}
+
+fn play(rt: &(impl Files + Env + Print)) -> Result<(), Stop> {
+    let Some(us) = read_receiver(rt) else {
+        rt.write_all(&replay::no_receiver())?;
+        return Ok(());
+    };
+    if let Some(mut log) = open(rt, 2) {
+        play_log(rt, &mut log, us)?;
+    }
+    Ok(())
 }
 
 fn main(rt: HostRuntime) {
-    match read_receiver(&rt) {
-        Receiver::Known(us) => {
-            if let Some(mut log) = open(&rt, 2) {
-                play_log(&rt, &mut log, us);
-            }
-        }
-        Receiver::Missing => {
-            write(&rt, &replay::no_receiver());
-        }
+    if let Err(Stop::Output(e)) = play(&rt) {
+        let _ = eprintln!(rt; "standard output: {e}");
     }
 }

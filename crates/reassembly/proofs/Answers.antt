@@ -1,14 +1,14 @@
 -- The laws of the definitions that make up a step: one for each answer, with what leads there.
 -- Assumes nothing.
+use Rattle.std.proofs.lemmas.Bool.{and_parts}
 use Prim.Native.Nat.{ℕ, ◌+◌, ◌-◌, ◌≤◌, ◌<◌}
-use mathlib.Core.Bool.{Bool, true, false, ◌&&◌}
+use mathlib.Core.Bool.{Bool, true, false, not, ◌&&◌}
 use mathlib.Core.Path.{◌≡◌, refl, sym, ap, ◌∙◌}
 use mathlib.Core.List.{List}
-use borrow.Author.Tests.{lt-ltb, le-ltb, lt-leb, le-leb, eq-eqb, ne_eqb, leb-true, ltb-true}
+use borrow.Author.Tests.{lt-ltb, le-ltb, lt-leb, le-leb, eq-eqb, ne_eqb, leb-true, ltb-true, not-false}
 use lib.Dec.{leb, ltb, eqb}
 use lib.ListN.{length, get_or}
 use Rattle.le.specs.Compare.{same}
-use Rattle.le.proofs.Tests.{both}
 use Rattle.le.proofs.Comparing.{same_true, other_list}
 use Rattle.frame.specs.Layout.{message_max, words_of, words_at}
 use Rattle.frame.specs.declared.Header.{Header}
@@ -22,11 +22,7 @@ use Rattle.reassembly.specs.declared.State.{State}
 use Rattle.reassembly.specs.declared.State.TheVariants.{Fresh, Open}
 use Rattle.reassembly.specs.declared.Reason.TheVariants.{Unread, NothingOpen, OutOfOrder, OtherWords, NoData, TooMuchData, MessageLong, BadState}
 
--- an answer and a buffer that are those of a step's law are those of the step
-pub as_in : (st law : Stepped) (answer : Answer) (buffer : List ℕ) → st ≡ law → answer ≡ law.answer → buffer ≡ law.buffer
-    → (answer ≡ st.answer) × (buffer ≡ st.buffer)
-as_in st law answer buffer e a b = rw e (a, b)
-
+-- an answer or a buffer that is that of a step's law is that of the step
 pub answer_in : (st law : Stepped) (answer : Answer) → st ≡ law → answer ≡ law.answer → answer ≡ st.answer
 answer_in st law answer e a = rw e a
 
@@ -44,24 +40,13 @@ module _ (s : State) (p : Progress) (room : ℕ) (is_open : s ≡ Open p) where
   no_next h = rw (is_open, lt-leb 1 p.next h)
 
   module _ (next : 1 ≤ p.next) where
-    pub next_ahead : p.filled < p.next → consistent s room ≡ false
-    unfolding consistent
-    next_ahead h = rw (is_open, le-leb 1 p.next next, lt-leb p.next p.filled h)
-
     module _ (order : p.next ≤ p.filled) where
-      pub all_filled : p.words.total ≤ p.filled → consistent s room ≡ false
-      unfolding consistent
-      all_filled h = rw (is_open, le-leb 1 p.next next, le-leb p.next p.filled order, le-ltb p.filled p.words.total h)
-
       -- the message's length decides
       pub by_length : p.filled < p.words.total → consistent s room ≡ leb p.words.total message_max && leb p.words.total room
       unfolding consistent
       by_length less = rw (is_open, le-leb 1 p.next next, le-leb p.next p.filled order, lt-ltb p.filled p.words.total less)
 
       module _ (less : p.filled < p.words.total) where
-        pub over_long : message_max < p.words.total → consistent s room ≡ false
-        over_long h = by_length less ∙ rw (lt-leb p.words.total message_max h)
-
         pub by_room : p.words.total ≤ message_max → consistent s room ≡ leb p.words.total room
         by_room h = by_length less ∙ rw (le-leb p.words.total message_max h)
 
@@ -77,10 +62,10 @@ pub consistent_open : (p : Progress) (room : ℕ) → consistent (Open p) room �
 unfolding consistent
 consistent_open p room e =
     let total = p.words.total in
-    let a = both (leb 1 p.next) _ e in
-    let b = both (leb p.next p.filled) _ a.1 in
-    let c = both (ltb p.filled total) _ b.1 in
-    let d = both (leb total message_max) _ c.1 in
+    let a = and_parts (leb 1 p.next) _ e in
+    let b = and_parts (leb p.next p.filled) _ a.1 in
+    let c = and_parts (ltb p.filled total) _ b.1 in
+    let d = and_parts (leb total message_max) _ c.1 in
     record {
       positive = leb-true 1 p.next a.0;
       order = leb-true p.next p.filled b.0;
@@ -89,7 +74,7 @@ consistent_open p room e =
       held = leb-true total room d.1;
     }
 
--- whether the carried words are the same: one that differs decides, or else the last; where the test holds, the records are equal
+-- whether the carried words are the same: as the derived test compares them; one that differs decides, or else the last; where it holds, the records are equal
 module _ (v w : Words) where
   pub words_equal : same_words_def v w ≡ true → w ≡ v
   words_equal e = ap (words_at 0) (sym (same_true (words_of v) (words_of w) e))
@@ -97,14 +82,23 @@ module _ (v w : Words) where
   pub word_differs : (i : ℕ) → (get_or (words_of v) i 0 ≡ get_or (words_of w) i 0 → ⊥) → same_words_def v w ≡ false
   word_differs i differ = other_list (words_of v) (words_of w) (λ e. differ (ap (λ (l : List ℕ). get_or l i 0) e))
 
-  pub last_decides : v.sequence ≡ w.sequence → v.id ≡ w.id → v.sender ≡ w.sender → v.status ≡ w.status
-      → same_words_def v w ≡ eqb v.total w.total
+  pub same_by_fields : same_words_def v w
+      ≡ eqb v.sequence w.sequence && (eqb v.id w.id && (eqb v.sender w.sender && (eqb v.status w.status && eqb v.total w.total)))
   unfolding same
-  last_decides a b c d = rw (eq-eqb _ _ a, eq-eqb _ _ b, eq-eqb _ _ c, eq-eqb _ _ d) (alone (eqb v.total w.total))
+  same_by_fields = rw (alone (eqb v.total w.total))
     where
       alone : (t : Bool) → t && true ≡ t
       alone true = refl
       alone false = refl
+
+  pub same_tested : (differ : Bool)
+      → differ ≡ not (eqb v.sequence w.sequence && (eqb v.id w.id && (eqb v.sender w.sender && (eqb v.status w.status && eqb v.total w.total))))
+      → differ ≡ false → same_words_def v w ≡ true
+  same_tested differ tested is = same_by_fields ∙ not-false _ (sym tested ∙ is)
+
+  pub last_decides : v.sequence ≡ w.sequence → v.id ≡ w.id → v.sender ≡ w.sender → v.status ≡ w.status
+      → same_words_def v w ≡ eqb v.total w.total
+  last_decides a b c d = same_by_fields ∙ rw (eq-eqb _ _ a, eq-eqb _ _ b, eq-eqb _ _ c, eq-eqb _ _ d)
 
 -- 8, 9, and data that is taken
 module _ (w : Words) (i filled : ℕ) (p b : List ℕ) where
@@ -186,3 +180,6 @@ module _ (r : Parsed) (p : List ℕ) (s : State) (b : List ℕ) where
   pub good_state : consistent s (length b) ≡ true → received r p s b ≡ routed r p s b
   unfolding received
   good_state h = rw h
+
+-- what the goals of a message that goes on want
+pub ruleset continuing = (same_by_fields, words_equal, consistent_open)

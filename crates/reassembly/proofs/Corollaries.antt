@@ -1,5 +1,6 @@
 -- What follows for runs: `exactly_these`, `put_in_exactly`, `never_bad`, `never_in_vain`, `sent_is_framed`, `framed_is_sent`, `written_is_handed_up`.
 -- Assumes nothing.
+use Rattle.std.proofs.lemmas.Bool.{and_parts}
 use Prim.Native.Nat.{ℕ, zero, suc, ◌-◌, ◌≤◌}
 use mathlib.Core.Bool.{Bool, true, false, cond}
 use mathlib.Core.Path.{◌≡◌, refl, sym, ap, ap₂, ◌∙◌}
@@ -7,7 +8,6 @@ use mathlib.Core.List.{List, [], ◌∷◌, ◌++◌, map, flatten, filter_map, 
 use mathlib.Core.Option.{Option, none, some, Option-elim}
 use native.Mathlib.Omega.{arith}
 use lib.ListN.{length, replicate}
-use Rattle.le.proofs.Tests.{both}
 use Rattle.frame.specs.Layout.{header_for, frame_of}
 use Rattle.frame.specs.Framing.{All, Cut, frames_from, Framing}
 use Rattle.frame.specs.Statements.{Fits, count_up}
@@ -46,9 +46,9 @@ lost_up (s ∷ ss) = frame_up s s.arrives (if_last ss none) (expected_from none 
 whole_up : (m : HandedUp) (s : Sent) (ss : List Sent) → all_arrive (s ∷ ss) ≡ true → messages (expected_from (some m) (s ∷ ss)) ≡ m ∷ []
 unfolding expected_from filter_map all_arrive
 whole_up m s [] all =
-    frame_up s s.arrives (some m) [] ∙ rw (both s.arrives true all).0
+    frame_up s s.arrives (some m) [] ∙ rw (and_parts s.arrives true all).0
 whole_up m s (r ∷ ss) all =
-    let arrive = both s.arrives (all_arrive (r ∷ ss)) all in
+    let arrive = and_parts s.arrives (all_arrive (r ∷ ss)) all in
     frame_up s s.arrives none (expected_from (some m) (r ∷ ss)) ∙ rw arrive.0 (whole_up m r ss arrive.1)
 
 message_up : (t : Transmission) → Cut t.message.bytes (map (λ s. s.piece) t.frames) → (rest : List HandedUp)

@@ -3,4 +3,3 @@ pub mod Step
 pub mod Run
 pub mod Traffic
 pub mod Statements
-pub mod Helpers

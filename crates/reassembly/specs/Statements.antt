@@ -1,7 +1,7 @@
 -- What is proved of steps and of whole runs. The proofs are in `proofs/Theorem.antt`, `proofs/Outcome.antt` and `proofs/Corollaries.antt`, under the names
 -- given here.
 -- Assumes nothing.
-use Rattle.std.specs.Prelude.{ℕ, ◌-◌, ◌≤◌, true, ◌≡◌, length, take, replicate}
+use Rattle.std.specs.Prelude.{ℕ, ◌-◌, ◌≤◌, true, ◌≡◌, Ok, length, take, replicate}
 use mathlib.Core.List.{List, [], ◌∷◌, ◌++◌, map, flatten}
 use Rattle.std.proofs.Math.Option.{Option, none, some}
 use Rattle.frame.specs.Layout.{message_max}
@@ -13,7 +13,6 @@ use Rattle.frame.specs.Writing.{counted, frame_at}
 use Rattle.frame.specs.declared.Header.{Header}
 use Rattle.frame.specs.declared.read.Parsed.TheVariants as Parsed
 use Rattle.frame.specs.declared.read.Reason.{Reason as ReadReason}
-use Rattle.frame.specs.declared.write.Counted.TheVariants.{Frames}
 use Rattle.reassembly.specs.Step.{number_of, consistent, refused, step_of}
 use Rattle.reassembly.specs.Run.{HandedUp, verdicts, up_by, run, messages}
 use Rattle.reassembly.specs.Traffic.{Message, Sent, Transmission, Traffic, PutIn, Legal, LegalTraffic, ApartTraffic, envelope_for, calls_from, calls, as_sent, arrived, expected}
@@ -117,7 +116,7 @@ pub record Outgoing : Type 0 where
 pub record LegalOutgoing (us room : ℕ) (p : Outgoing) : Type 0 where
   pub words : Fits (envelope_for us p.message)
   pub fits : length p.message.bytes ≤ room
-  pub counts : counted (length p.message.bytes) p.size ≡ Frames p.count
+  pub counts : counted (length p.message.bytes) p.size ≡ Ok p.count
 
 -- what the writer writes for it, and what is handed up for it: nothing before the last frame, then the message
 abbrev pub frames_of : ℕ → Outgoing → List (List ℕ)

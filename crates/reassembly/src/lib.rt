@@ -4,31 +4,45 @@
 
 ghost use Rattle.std.specs.Prelude.{◌≡◌, true, ◌≤◌, ◌<◌, length};
 ghost use Rattle.frame.specs.Layout.{message_max};
-ghost use Rattle.reassembly.specs.Helpers.{unread_of};
-ghost use Rattle.reassembly.specs.Step.{number_of, consistent, same_words_def, state_after_def, refusal, waiting, lacks_data_def, accept, begin, proceed, routed, received, step_of};
+ghost use Rattle.reassembly.specs.Step.{number_of, consistent, state_after_def, refusal, lacks_data_def, accept, begin, proceed, routed, received, step_of};
 
 use frame::read::Parsed;
 use frame::{Header, Words};
 
 // A message that is open: its carried words, the Index that comes next, and how many of its bytes stand
 // in the buffer.
-#[derive(Clone, Copy)]
+#[derive(Clone, Copy, Debug, PartialEq, Eq)]
 pub struct Progress {
     pub words: Words,
     pub next: usize,
     pub filled: usize,
 }
 
-// What is kept between two calls.
-#[derive(Clone, Copy)]
+// What is kept between two calls. An enum of its own and no Option: the scope names this form.
+#[derive(Clone, Copy, Debug, PartialEq, Eq)]
 pub enum State {
     // Nothing is open.
     Fresh,
     Open(Progress),
 }
 
+impl State {
+    // An open state that no buffer is consistent with: what numbers that are no state are read as.
+    pub const INCONSISTENT: State = State::Open(Progress {
+        words: Words {
+            sequence: 0,
+            id: 0,
+            sender: 0,
+            status: 0,
+            total: 0,
+        },
+        next: 0,
+        filled: 0,
+    });
+}
+
 // Why a frame is refused.
-#[derive(Clone, Copy)]
+#[derive(Clone, Copy, Debug, PartialEq, Eq)]
 pub enum Reason {
     // 1 to 4: the frame does not parse.
     Unread(frame::read::Reason),
@@ -48,7 +62,8 @@ pub enum Reason {
     BadState,
 }
 
-#[derive(Clone, Copy)]
+// What a call answers, refusals among it and in no Result: the scope names this form.
+#[derive(Clone, Copy, Debug, PartialEq, Eq)]
 pub enum Verdict {
     // More of the message is wanted.
     More,
@@ -57,8 +72,8 @@ pub enum Verdict {
     Refused(Reason),
 }
 
-// A verdict together with the state after it.
-#[derive(Clone, Copy)]
+// A verdict together with the state after it: the scope names this form.
+#[derive(Clone, Copy, Debug, PartialEq, Eq)]
 pub struct Answer {
     pub verdict: Verdict,
     pub state: State,
@@ -89,13 +104,7 @@ fn state_after(reason: Reason, before: State) -> State
 {
     match reason {
         Reason::Unread(_) => before,
-        Reason::NothingOpen => State::Fresh,
-        Reason::OutOfOrder => State::Fresh,
-        Reason::OtherWords => State::Fresh,
-        Reason::NoData => State::Fresh,
-        Reason::TooMuchData => State::Fresh,
-        Reason::MessageLong => State::Fresh,
-        Reason::BadState => State::Fresh,
+        _ => State::Fresh,
     }
 }
 
@@ -108,112 +117,86 @@ fn refuse(reason: Reason, before: State) -> Answer
     }
 }
 
-fn wait_for(words: Words, next: usize, filled: usize) -> State
-    ensures { result ≡ waiting words next filled }
-{
-    let open = Progress {
-        words,
-        next,
-        filled,
-    };
-    State::Open(open)
-}
-
 // Whether a state is fresh or consistent, over a buffer of `room` bytes.
+#[tactic(auto, unfolding(crate::specs::Step::consistent))]
 pub fn is_consistent(state: State, room: usize) -> bool
     ensures { result ≡ consistent state room }
 {
     let State::Open(open) = state else {
         return true;
     };
-    let words = open.words;
-    let total = words.total as usize;
-    if open.next < 1 {
-        return false;
-    }
-    if open.filled < open.next {
-        return false;
-    }
-    if total <= open.filled {
-        return false;
-    }
-    if Header::MESSAGE_MAX < total {
-        return false;
-    }
-    total <= room
-}
-
-// Whether the carried words are the same.
-fn same_words(v: Words, w: Words) -> bool
-    ensures { result ≡ same_words_def v w }
-{
-    if v.sequence != w.sequence {
-        return false;
-    }
-    if v.id != w.id {
-        return false;
-    }
-    if v.sender != w.sender {
-        return false;
-    }
-    if v.status != w.status {
-        return false;
-    }
-    v.total == w.total
+    let total = open.words.total as usize;
+    1 <= open.next
+        && open.next <= open.filled
+        && open.filled < total
+        && total <= Header::MESSAGE_MAX
+        && total <= room
 }
 
 // Whether data is missing: there is none, though the message is not empty.
 pub fn lacks_data(size: usize, total: usize) -> bool
     ensures { result ≡ lacks_data_def size total }
 {
-    if size == 0 { total != 0 } else { false }
+    size == 0 && total != 0
 }
 
-// The data of the frame with this Index, where `filled` bytes stand in the buffer.
-fn accept_data(words: Words, index: usize, filled: usize, piece: &[u8], buf: &mut [u8]) -> Answer
-    requires filled_le_total { filled ≤ words.total }
-    requires total_in_bounds { words.total ≤ length buf.old }
-    requires index_lt_message_max { index < message_max }
-    ensures value { result ≡ (accept words index filled piece.now buf.old).answer }
-    ensures buf_after { buf.new ≡ (accept words index filled piece.now buf.old).buffer }
+// The data of the frame whose Index comes next, for what is open or begins. Data and buffer stay two parameters, here and below:
+// the one is read, the other is lent to be written, and no function keeps both.
+#[tactic(auto, unfolding(crate::specs::Step::accept))]
+fn accept_data(progress: Progress, piece: &[u8], buf: &mut [u8]) -> Answer
+    requires filled_le_total { progress.filled ≤ progress.words.total }
+    requires total_in_bounds { progress.words.total ≤ length buf.old }
+    requires next_lt_message_max { progress.next < message_max }
+    ensures value { result ≡ (accept progress.words progress.next progress.filled piece.now buf.old).answer }
+    ensures buf_after { buf.new ≡ (accept progress.words progress.next progress.filled piece.now buf.old).buffer }
 {
-    let total = words.total as usize;
+    let total = progress.words.total as usize;
     if lacks_data(piece.len(), total) {
         return refuse(Reason::NoData, State::Fresh);
     }
-    if total - filled < piece.len() {
+    if total - progress.filled < piece.len() {
         return refuse(Reason::TooMuchData, State::Fresh);
     }
-    let now_filled = filled + piece.len();
-    le::copy(piece, &mut buf[filled..]);
-    if now_filled == total {
+    let filled = progress.filled + piece.len();
+    // The buffer's part from the first unfilled byte on is lent to the copy: the scope names this form.
+    le::copy(piece, &mut buf[progress.filled..]);
+    if filled == total {
         return Answer {
-            verdict: Verdict::Delivered(words, total),
+            verdict: Verdict::Delivered(progress.words, total),
             state: State::Fresh,
         };
     }
+    let open = Progress {
+        next: progress.next + 1,
+        filled,
+        ..progress
+    };
     Answer {
         verdict: Verdict::More,
-        state: wait_for(words, index + 1, now_filled),
+        state: State::Open(open),
     }
 }
 
 // A frame with Index 0: it begins anew, whatever was open.
+#[tactic(auto, unfolding(crate::specs::Step::begin))]
 fn begin_message(words: Words, piece: &[u8], buf: &mut [u8]) -> Answer
     ensures value { result ≡ (begin words piece.now buf.old).answer }
     ensures buf_after { buf.new ≡ (begin words piece.now buf.old).buffer }
 {
     let total = words.total as usize;
-    if Header::MESSAGE_MAX < total {
+    if Header::MESSAGE_MAX < total || buf.len() < total {
         return refuse(Reason::MessageLong, State::Fresh);
     }
-    if buf.len() < total {
-        return refuse(Reason::MessageLong, State::Fresh);
-    }
-    accept_data(words, 0, 0, piece, buf)
+    let begun = Progress {
+        words,
+        next: 0,
+        filled: 0,
+    };
+    accept_data(begun, piece, buf)
 }
 
 // A frame with any other Index: it goes on with what is open.
+#[tactic(auto, using(crate::proofs::Answers::continuing), unfolding(crate::specs::Step::proceed))]
 fn continue_message(h: Header, piece: &[u8], state: State, buf: &mut [u8]) -> Answer
     requires { consistent state (length buf.old) ≡ true }
     ensures value { result ≡ (proceed h piece.now state buf.old).answer }
@@ -225,30 +208,30 @@ fn continue_message(h: Header, piece: &[u8], state: State, buf: &mut [u8]) -> An
     if h.index as usize != open.next {
         return refuse(Reason::OutOfOrder, state);
     }
-    if !same_words(h.words, open.words) {
+    if h.words != open.words {
         return refuse(Reason::OtherWords, state);
     }
-    accept_data(h.words, open.next, open.filled, piece, buf)
+    // The words are the same. The frame's go on, which are at hand where they were compared.
+    let open = Progress {
+        words: h.words,
+        ..open
+    };
+    accept_data(open, piece, buf)
 }
 
-// Why a frame did not parse. It is called only for one that did not; `let .. else` does not say so.
-fn unread(parsed: Parsed) -> Reason
-    ensures { result ≡ unread_of parsed }
-{
-    match parsed {
-        Parsed::Refused(reason) => Reason::Unread(reason),
-        Parsed::Header(_) => Reason::Unread(frame::read::Reason::FrameShort),
-    }
-}
-
-// What the reader answers of a frame, and the frame's data, where the state is fresh or consistent.
+// Takes in what the reader answers of a frame, with the frame's data, where the state is fresh or consistent. The scope names
+// the first `let .. else`; that `read` is a refusal then is proved of the second.
+#[tactic(auto, unfolding(crate::specs::Step::routed))]
 fn route(read: Parsed, piece: &[u8], state: State, buf: &mut [u8]) -> Answer
     requires { consistent state (length buf.old) ≡ true }
     ensures value { result ≡ (routed read piece.now state buf.old).answer }
     ensures buf_after { buf.new ≡ (routed read piece.now state buf.old).buffer }
 {
     let Parsed::Header(h) = read else {
-        return refuse(unread(read), state);
+        let Parsed::Refused(reason) = read else {
+            unreachable!()
+        };
+        return refuse(Reason::Unread(reason), state);
     };
     if h.index == 0 {
         return begin_message(h.words, piece, buf);
@@ -258,6 +241,7 @@ fn route(read: Parsed, piece: &[u8], state: State, buf: &mut [u8]) -> Answer
 
 // The same for any state: one that is neither fresh nor consistent gets 11. Accepted data lands in the buffer from
 // the first unfilled byte on; a refusal changes no byte.
+#[tactic(auto, unfolding(crate::specs::Step::received))]
 pub fn receive(read: Parsed, piece: &[u8], state: State, buf: &mut [u8]) -> Answer
     ensures value { result ≡ (received read piece.now state buf.old).answer }
     ensures buf_after { buf.new ≡ (received read piece.now state buf.old).buffer }
@@ -270,6 +254,7 @@ pub fn receive(read: Parsed, piece: &[u8], state: State, buf: &mut [u8]) -> Answ
 
 // One call: a frame, for the receiver `us`, received as the reader answers it. The state is tested first, so that
 // the words of a frame and of a state are compared where they stand.
+#[tactic(auto, unfolding(crate::specs::Step::received))]
 pub fn step(state: State, frame: &[u8], us: u32, buf: &mut [u8]) -> Answer
     ensures value { result ≡ (step_of us state buf.old frame.now).answer }
     ensures buf_after { buf.new ≡ (step_of us state buf.old frame.now).buffer }

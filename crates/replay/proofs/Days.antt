@@ -10,6 +10,7 @@ use native.Mathlib.Omega.{arith}
 use lib.Dec.{leb}
 use lib.ListN.{length, take, drop, length-append, length-drop, length-replicate, take-append-drop}
 use lib.Seq.{take_at, drop_at}
+use Rattle.std.specs.Prelude.{Option as Maybe, Result, Ok, Err}
 use Rattle.frame.specs.Framing.{All}
 use Rattle.frame.specs.Layout.{message_max}
 use Rattle.framelog.specs.Layout.{record_size, record_of, cut_of, zeros}
@@ -18,9 +19,6 @@ use Rattle.framelog.specs.Statements.{ReadsBackAs}
 use Rattle.framelog.specs.Writing.{slice_after}
 use Rattle.framelog.specs.declared.Reason.{Reason}
 use Rattle.framelog.specs.declared.Reason.TheVariants.{WrongSize}
-use Rattle.framelog.specs.declared.Logged.{Logged}
-use Rattle.framelog.specs.declared.Logged.TheVariants.{Frame, Refused}
-use Rattle.framelog.specs.declared.Written.{Written}
 use Rattle.framelog.proofs.Answers.{wrong_size, record_length}
 use Rattle.framelog.proofs.Theorems.{size_in_use, writes_each, reads_back}
 use Rattle.reassembly.specs.Step.{Stepped, step_of}
@@ -36,14 +34,11 @@ use Rattle.reassembly.proofs.Answers.{fresh}
 use Rattle.reassembly.proofs.Corollaries.{exactly_these, never_bad}
 use Rattle.reassembly.proofs.Theorem.{demand_3}
 use Rattle.replay.specs.Log.{records, log_of}
-use Rattle.replay.specs.Day.{Stage, ran, play_of, stages, entries, cleared}
+use Rattle.replay.specs.Day.{Entry, Stage, ran, play_of, stages, entries, cleared}
 use Rattle.replay.specs.Lines.{lines_from, receiver_of, output_for}
 use Rattle.replay.specs.Chunk.{starting}
 use Rattle.replay.specs.Statements.{RecordsAre, Loggable, ShortRefused, FramesRun, FramesListed, up_of, up_of_stage, DayHandsUp, DayExactly, delivery_in, delivery_of, DayLists, step_of_stage, frame_in, RefusedApart, refusal_in, refusal_of, OwnNumbers, DamagedDay, DayNeverBad, AnyBuffer, session, lines_left, AnyChunks, OutputIs, FiveBytes}
-use Rattle.replay.specs.declared.Entry.{Entry}
-use Rattle.replay.specs.declared.Entry.TheVariants.{Unread, Run}
 use Rattle.replay.specs.declared.Player.{Player}
-use Rattle.replay.specs.declared.Receiver.{Receiver}
 use Rattle.replay.proofs.Logs.{no_records, first_record, none_of}
 use Rattle.replay.proofs.Playing.{is_skipped, is_run}
 use Rattle.replay.proofs.Parts.{nothing_lost}
@@ -69,12 +64,12 @@ module _ (frame : List ℕ) (fits : Loggable frame) where
   reads =
       let blank = zeros record_size in
       let done = writes_each record_size frame blank (length-replicate {A = ℕ} record_size 0) fits in
-      subst (ReadsBackAs record_size frame) (ap (λ (w : Written). slice_after w record_size frame blank) done) (reads_back record_size frame blank size_in_use done)
+      subst (ReadsBackAs record_size frame) (ap (λ (w : Result (Unit {0}) Reason). slice_after w record_size frame blank) done) (reads_back record_size frame blank size_in_use done)
 
   frame_run : (us : ℕ) (state : State) (buffer : List ℕ) → play_of us state buffer (record_of record_size frame) ≡ ran (step_of us state buffer frame)
   frame_run us state buffer =
       let slice = record_of record_size frame in
-      let frame_is : cut_of (length frame) slice ≡ frame = ap (λ (x : Logged). frame_after x slice) (sym reads.read) ∙ reads.frame_is in
+      let frame_is : cut_of (length frame) slice ≡ frame = ap (λ (x : Result ℕ Reason). frame_after x slice) (sym reads.read) ∙ reads.frame_is in
       is_run us state buffer slice (length frame) reads.read ∙ ap (λ (f : List ℕ). ran (step_of us state buffer f)) frame_is
 
 -- the records of the log of frames are their records
@@ -99,9 +94,9 @@ run_all us state buffer (f ∷ fs) fit =
 pub frames_run : FramesRun
 frames_run us state buffer frames fit = ap (stages us state buffer) (log_records frames fit) ∙ run_all us state buffer frames fit
 
-listed_all : (ss : List Stepped) → map (λ s. s.answer.entry) (map ran ss) ≡ map Run (map (λ st. st.answer.verdict) ss)
+listed_all : (ss : List Stepped) → map (λ s. s.answer.entry) (map ran ss) ≡ map Ok (map (λ st. st.answer.verdict) ss)
 listed_all [] = refl
-listed_all (s ∷ ss) = ap (λ (es : List Entry). Run s.answer.verdict ∷ es) (listed_all ss)
+listed_all (s ∷ ss) = ap (λ (es : List Entry). Ok s.answer.verdict ∷ es) (listed_all ss)
 
 pub frames_listed : FramesListed
 frames_listed us frames fit = ap (map (λ s. s.answer.entry)) (frames_run us Fresh cleared frames fit) ∙ listed_all (answers us Fresh cleared frames)
@@ -121,10 +116,10 @@ day_exactly us buffer traffic legal fit =
     ap messages (day_hands_up us buffer traffic legal fit ∙ sym (demand_3 us buffer traffic legal)) ∙ exactly_these us buffer traffic legal
 
 delivery_up : (e : Entry) (buffer : List ℕ) → delivery_in e ≡ delivery_of (up_of e buffer)
-delivery_up (Unread reason) buffer = refl
-delivery_up (Run More) buffer = refl
-delivery_up (Run (Delivered w n)) buffer = refl
-delivery_up (Run (Stopped reason)) buffer = refl
+delivery_up (Err reason) buffer = refl
+delivery_up (Ok More) buffer = refl
+delivery_up (Ok (Delivered w n)) buffer = refl
+delivery_up (Ok (Stopped reason)) buffer = refl
 
 deliveries_up : (ss : List Stage) → map delivery_in (map (λ s. s.answer.entry) ss) ≡ map delivery_of (map up_of_stage ss)
 deliveries_up [] = refl
@@ -141,11 +136,11 @@ unfolding stages answers filter_map
 refused_apart us state buffer [] = refl
 refused_apart us state buffer (r ∷ rs) = by (read_of record_size r) refl (λ st b. refused_apart us st b rs)
   where
-    by : (x : Logged) → read_of record_size r ≡ x
+    by : (x : Result ℕ Reason) → read_of record_size r ≡ x
         → ((st : State) (b : List ℕ) → filter_map step_of_stage (stages us st b rs) ≡ answers us st b (filter_map frame_in rs))
         → filter_map step_of_stage (stages us state buffer (r ∷ rs)) ≡ answers us state buffer (filter_map frame_in (r ∷ rs))
-    by (Refused reason) e rest = rw (e, is_skipped us state buffer r reason e) (rest state buffer)
-    by (Frame n) e rest =
+    by (Err reason) e rest = rw (e, is_skipped us state buffer r reason e) (rest state buffer)
+    by (Ok n) e rest =
         let st = step_of us state buffer (cut_of n r) in
         rw (e, is_run us state buffer r n e) (ap (λ (ss : List Stepped). st ∷ ss) (rest st.answer.state st.buffer))
 
@@ -154,12 +149,12 @@ unfolding stages
 own_numbers us state buffer [] = refl
 own_numbers us state buffer (r ∷ rs) = by (read_of record_size r) refl (λ st b. own_numbers us st b rs)
   where
-    by : (x : Logged) → read_of record_size r ≡ x
+    by : (x : Result ℕ Reason) → read_of record_size r ≡ x
         → ((st : State) (b : List ℕ) → map refusal_in (entries us st b rs) ≡ map (λ q. refusal_of (read_of record_size q)) rs)
         → map refusal_in (entries us state buffer (r ∷ rs)) ≡ map (λ q. refusal_of (read_of record_size q)) (r ∷ rs)
-    by (Refused reason) e rest =
+    by (Err reason) e rest =
         rw (e, is_skipped us state buffer r reason e) (ap (λ (l : List (Option Reason)). some reason ∷ l) (rest state buffer))
-    by (Frame n) e rest =
+    by (Ok n) e rest =
         let st = step_of us state buffer (cut_of n r) in
         rw (e, is_run us state buffer r n e) (ap (λ (l : List (Option Reason)). none ∷ l) (rest st.answer.state st.buffer))
 
@@ -182,18 +177,18 @@ unfolding stages
 agree_on us state b c [] agree = refl
 agree_on us state b c (r ∷ rs) agree = by (read_of record_size r) refl (λ st d e. agree_on us st d e rs)
   where
-    by : (x : Logged) → read_of record_size r ≡ x
+    by : (x : Result ℕ Reason) → read_of record_size r ≡ x
         → ((st : State) (d e : List ℕ) → Agree st d e → entries us st d rs ≡ entries us st e rs)
         → entries us state b (r ∷ rs) ≡ entries us state c (r ∷ rs)
-    by (Refused reason) e rest =
-        rw (is_skipped us state b r reason e, is_skipped us state c r reason e) (ap (λ (es : List Entry). Unread reason ∷ es) (rest state b c agree))
-    by (Frame n) e rest =
+    by (Err reason) e rest =
+        rw (is_skipped us state b r reason e, is_skipped us state c r reason e) (ap (λ (es : List Entry). Err reason ∷ es) (rest state b c agree))
+    by (Ok n) e rest =
         let alike = step_agrees us state b c (cut_of n r) agree in
         let st = step_of us state b (cut_of n r) in
         let other = (step_of us state c (cut_of n r)).buffer in
         rw (is_run us state b r n e, is_run us state c r n e)
         (ap₂ (λ (e : Entry) (es : List Entry). e ∷ es)
-        (ap (λ (a : Answer). Run a.verdict) alike.0)
+        (ap (λ (a : Answer). Ok a.verdict) alike.0)
         (rest st.answer.state st.buffer other alike.2 ∙ ap (λ (a : Answer). entries us a.state other rs) alike.0))
 
 pub any_buffer : AnyBuffer
@@ -214,8 +209,8 @@ any_chunks us buffer log cs long chunked all =
 
 pub output_is : OutputIs
 output_is file log = (
-  (λ missing. ap (λ (r : Receiver). output_for r log) missing),
-  (λ us buffer cs known long chunked all. any_chunks us buffer log cs long chunked all ∙ sym (ap (λ (r : Receiver). output_for r log) known)),
+  (λ missing. ap (λ (r : Maybe ℕ). output_for r log) missing),
+  (λ us buffer cs known long chunked all. any_chunks us buffer log cs long chunked all ∙ sym (ap (λ (r : Maybe ℕ). output_for r log) known)),
 )
 
 -- a list of five or more is no list of four, and any other is whole

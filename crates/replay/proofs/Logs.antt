@@ -3,9 +3,9 @@
 --     first_record   else the first bytes are one, and the rest has the others
 --     behind_record  where the rest begins
 --     length_part    a record is no longer than what is left
---     part_inside    so playing it moves on, and not past the end
+--     some_part      and it is not empty, where something is left
 -- Assumes nothing.
-use Prim.Native.Nat.{ℕ, zero, suc, ◌+◌, ◌≤◌, ◌<◌}
+use Prim.Native.Nat.{ℕ, zero, suc, ◌+◌, ◌≤◌}
 use mathlib.Core.Path.{◌≡◌, refl, sym, ap, ◌∙◌}
 use mathlib.Core.List.{List, [], ◌∷◌}
 use native.Mathlib.Omega.{arith}
@@ -66,11 +66,6 @@ length_part (suc n) (b ∷ log) = omega (arith, length_part n log)
 pub some_part : (n : ℕ) (log : List ℕ) → 1 ≤ length log → 1 ≤ length (take (suc n) log)
 some_part n [] h = h
 some_part n (b ∷ log) h = omega arith
-
-pub part_inside : (read : ℕ) (log part : List ℕ) → part ≡ take record_size (drop read log) → read < length log → (1 ≤ length part) × (read + length part ≤ length log)
-part_inside read log part is more =
-    let left = length-drop read log in
-    rw is (some_part 259 (drop read log) (omega arith), omega (arith, length_part record_size (drop read log)))
 
 -- parts of bytes are bytes
 pub are_drop : (n : ℕ) (s : List ℕ) → AreBytes s → AreBytes (drop n s)

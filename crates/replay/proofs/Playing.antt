@@ -9,26 +9,19 @@ use Rattle.frame.specs.Layout.{message_max}
 use Rattle.framelog.specs.Layout.{record_size, cut_of}
 use Rattle.framelog.specs.Reading.{read_of}
 use Rattle.framelog.specs.declared.Reason.{Reason}
-use Rattle.framelog.specs.declared.Logged.TheVariants.{Frame, Refused}
 use Rattle.reassembly.specs.Step.{step_of}
 use Rattle.reassembly.specs.declared.State.{State}
 use Rattle.reassembly.proofs.Outcome.{Outcome, refuses, delivers, wants, outcome}
-use Rattle.replay.specs.Day.{Stage, skipped, ran, play_of, Bounded}
-use Rattle.replay.specs.declared.Entry.TheVariants.{Unread}
-use Rattle.replay.specs.declared.Played.{Played}
-
--- an answer and a buffer that are those of a law are those of the record
-pub as_in : (st law : Stage) (answer : Played) (buffer : List ℕ) → st ≡ law → answer ≡ law.answer → buffer ≡ law.buffer
-    → (answer ≡ st.answer) × (buffer ≡ st.buffer)
-as_in st law answer buffer e a b = rw e (a, b)
+use Rattle.std.specs.Prelude.{Ok, Err}
+use Rattle.replay.specs.Day.{skipped, ran, play_of, Bounded}
 
 -- a record that is refused, and one whose frame is run
 module _ (us : ℕ) (state : State) (buffer slice : List ℕ) where
-  pub is_skipped : (reason : Reason) → read_of record_size slice ≡ Refused reason → play_of us state buffer slice ≡ skipped (Unread reason) state buffer
+  pub is_skipped : (reason : Reason) → read_of record_size slice ≡ Err reason → play_of us state buffer slice ≡ skipped (Err reason) state buffer
   unfolding play_of
   is_skipped reason e = rw e
 
-  pub is_run : (n : ℕ) → read_of record_size slice ≡ Frame n → play_of us state buffer slice ≡ ran (step_of us state buffer (cut_of n slice))
+  pub is_run : (n : ℕ) → read_of record_size slice ≡ Ok n → play_of us state buffer slice ≡ ran (step_of us state buffer (cut_of n slice))
   unfolding play_of
   is_run n e = rw e
 

@@ -8,6 +8,7 @@ use borrow.Author.Tests.{le-ltb, lt-leb}
 use native.Mathlib.Omega.{arith}
 use lib.Dec.{ltb, eqb}
 use lib.ListN.{length, take, drop, length-append, length-drop, take-append-drop}
+use Rattle.std.specs.Prelude.{Result, Ok, Err}
 use Rattle.le.specs.Word.{word, AreBytes}
 use Rattle.le.proofs.Tests.{either, never}
 use Rattle.le.proofs.Words.{word_below}
@@ -19,8 +20,7 @@ use Rattle.frame.specs.declared.Words.{Words}
 use Rattle.frame.specs.declared.read.Parsed.{Parsed}
 use Rattle.framelog.specs.Layout.{record_size, cut_of}
 use Rattle.framelog.specs.Reading.{read_of}
-use Rattle.framelog.specs.declared.Logged.{Logged}
-use Rattle.framelog.specs.declared.Logged.TheVariants.{Frame, Refused}
+use Rattle.framelog.specs.declared.Reason.{Reason}
 use Rattle.framelog.specs.declared.Reason.TheVariants.{WrongSize, NotZero, FrameLong, BadEnd}
 use Rattle.reassembly.specs.Step as Step
 use Rattle.reassembly.specs.Step.{step_of}
@@ -30,49 +30,44 @@ use Rattle.reassembly.specs.declared.Verdict.TheVariants.{More, Delivered, Refus
 use Rattle.reassembly.proofs.Outcome.{Source, begun, continued, Outcome, refuses, delivers, wants, outcome, kept, small}
 use Rattle.reassembly.proofs.Steps.{length_landed}
 use Rattle.replay.specs.Log.{records}
-use Rattle.replay.specs.Day.{Stage, ran, play_of}
+use Rattle.replay.specs.Day.{Entry, Stage, ran, play_of}
 use Rattle.replay.specs.Lines.{space, told, line_of}
 use Rattle.replay.specs.Chunk.{starting, line_max, number_max, Span, halts, line_for, next_player, played}
 use Rattle.replay.specs.Helpers.{told_max}
 use Rattle.replay.specs.Statements.{Call, span_by, session, Chunked, IdFits, Playable, SpanFits, RoomSuffices, InParts, AllParts}
-use Rattle.replay.specs.declared.Entry.{Entry}
-use Rattle.replay.specs.declared.Entry.TheVariants.{Unread, Run}
 use Rattle.replay.specs.declared.Player.{Player}
 use Rattle.replay.proofs.Days.{any_chunks}
 use Rattle.replay.proofs.Logs.{none_of, no_records, first_record, behind_record, length_part, are_drop, are_take}
 use Rattle.replay.proofs.Parts.{join, whole_call}
 use Rattle.replay.proofs.Playing.{is_skipped, is_run}
 use Rattle.replay.proofs.Spans.{goes_room, at_end, halted, goes_on, by_records}
-use Rattle.replay.proofs.Texts.{spaced_most}
+use Rattle.replay.proofs.Texts.{spaced_most, delivered_short}
 
 -- an entry whose line is at most the longest: the words and the length of a delivery in their bounds
 abbrev Small : Entry → Type 0
-Small (Unread reason) = Unit {0}
-Small (Run More) = Unit {0}
-Small (Run (Delivered w n)) = (w.id < 2 ^ 32) × (n ≤ message_max)
-Small (Run (Stopped reason)) = Unit {0}
+Small (Err reason) = Unit {0}
+Small (Ok More) = Unit {0}
+Small (Ok (Delivered w n)) = (w.id < 2 ^ 32) × (n ≤ message_max)
+Small (Ok (Stopped reason)) = Unit {0}
 
 record_number : (n : ℕ) → n < 100 → length (space ++ decimal n) ≤ told_max
 record_number n h = omega (arith, spaced_most n 2 (omega arith) (omega arith))
 
 told_most : (e : Entry) → Small e → length (space ++ told e) ≤ told_max
-told_most (Unread WrongSize) ok = record_number 50 (omega arith)
-told_most (Unread NotZero) ok = record_number 51 (omega arith)
-told_most (Unread FrameLong) ok = record_number 52 (omega arith)
-told_most (Unread BadEnd) ok = record_number 53 (omega arith)
-told_most (Run More) ok = omega arith
-told_most (Run (Delivered w n)) ok =
-    let id = digits_most w.id 10 (omega (arith, ok.0)) (omega arith) in
-    let few = digits_most n 4 (omega (arith, ok.1)) (omega arith) in
-    simp length-append (omega arith)
-told_most (Run (Stopped (Unparsed reason))) ok = record_number (Step.number_of (Unparsed reason)) (omega (arith, (small reason).1))
-told_most (Run (Stopped NothingOpen)) ok = record_number 5 (omega arith)
-told_most (Run (Stopped OutOfOrder)) ok = record_number 6 (omega arith)
-told_most (Run (Stopped OtherWords)) ok = record_number 7 (omega arith)
-told_most (Run (Stopped NoData)) ok = record_number 8 (omega arith)
-told_most (Run (Stopped TooMuchData)) ok = record_number 9 (omega arith)
-told_most (Run (Stopped MessageLong)) ok = record_number 10 (omega arith)
-told_most (Run (Stopped BadState)) ok = record_number 11 (omega arith)
+told_most (Err WrongSize) ok = record_number 50 (omega arith)
+told_most (Err NotZero) ok = record_number 51 (omega arith)
+told_most (Err FrameLong) ok = record_number 52 (omega arith)
+told_most (Err BadEnd) ok = record_number 53 (omega arith)
+told_most (Ok More) ok = omega arith
+told_most (Ok (Delivered w n)) ok = delivered_short w.id n ok.0 ok.1
+told_most (Ok (Stopped (Unparsed reason))) ok = record_number (Step.number_of (Unparsed reason)) (omega (arith, (small reason).1))
+told_most (Ok (Stopped NothingOpen)) ok = record_number 5 (omega arith)
+told_most (Ok (Stopped OutOfOrder)) ok = record_number 6 (omega arith)
+told_most (Ok (Stopped OtherWords)) ok = record_number 7 (omega arith)
+told_most (Ok (Stopped NoData)) ok = record_number 8 (omega arith)
+told_most (Ok (Stopped TooMuchData)) ok = record_number 9 (omega arith)
+told_most (Ok (Stopped MessageLong)) ok = record_number 10 (omega arith)
+told_most (Ok (Stopped BadState)) ok = record_number 11 (omega arith)
 
 line_most : (number : ℕ) (e : Entry) → number < 2 ^ 64 → Small e → length (line_of number e) ≤ line_max
 unfolding line_of
@@ -124,9 +119,9 @@ run_fine us state buffer f long are id = by (outcome us state (length buffer) f)
 play_fine : (us : ℕ) (state : State) (buffer slice : List ℕ) → length buffer ≡ message_max → AreBytes slice → IdFits state → Fine (play_of us state buffer slice)
 play_fine us state buffer slice long are id = by (read_of record_size slice) refl
   where
-    by : (x : Logged) → read_of record_size slice ≡ x → Fine (play_of us state buffer slice)
-    by (Refused reason) e = rw (is_skipped us state buffer slice reason e) (record { small_entry = tt; id = id; long = long })
-    by (Frame n) e = rw (is_run us state buffer slice n e) (run_fine us state buffer (cut_of n slice) long (are_take n (drop 4 slice) (are_drop 4 slice are)) id)
+    by : (x : Result ℕ Reason) → read_of record_size slice ≡ x → Fine (play_of us state buffer slice)
+    by (Err reason) e = rw (is_skipped us state buffer slice reason e) (record { small_entry = tt; id = id; long = long })
+    by (Ok n) e = rw (is_run us state buffer slice n e) (run_fine us state buffer (cut_of n slice) long (are_take n (drop 4 slice) (are_drop 4 slice are)) id)
 
 -- what is played of a part: its text fits, and where there is room and a number for each record, all is played
 record Room (player : Player) (log : List ℕ) (room : ℕ) (s : Span) : Type 0 where

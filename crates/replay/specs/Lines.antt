@@ -1,17 +1,13 @@
 -- The text that is written: "a line a record: record number from 0, then the refusal number, "more", or "delivered" with Message ID and length, in decimal, one
 -- space between (`2 delivered 16909060 5`)"; "If the receiver file isn't four bytes, the only line written is "no receiver"." (document 02, Q-2). Each line ends with one newline, the last too.
 -- Assumes nothing.
-use Rattle.std.specs.Prelude.{ℕ, suc, cond, List, [], ◌∷◌, ◌++◌, eqb, length}
+use Rattle.std.specs.Prelude.{ℕ, suc, cond, List, [], ◌∷◌, ◌++◌, Option, Some, None, Ok, Err, eqb, length}
 use Rattle.le.specs.Word.{word}
 use Rattle.text.specs.Decimal.{decimal}
 use Rattle.framelog.specs.Layout as Layout
 use Rattle.reassembly.specs.Step as Step
 use Rattle.reassembly.specs.declared.Verdict.TheVariants.{More, Delivered, Refused}
-use Rattle.replay.specs.Day.{listed}
-use Rattle.replay.specs.declared.Entry.{Entry}
-use Rattle.replay.specs.declared.Entry.TheVariants.{Unread, Run}
-use Rattle.replay.specs.declared.Receiver.{Receiver}
-use Rattle.replay.specs.declared.Receiver.TheVariants.{Known, Missing}
+use Rattle.replay.specs.Day.{Entry, listed}
 
 -- in ASCII
 abbrev pub space : List ℕ
@@ -38,10 +34,10 @@ delivered_text id n = delivered_word ++ (space ++ (decimal id ++ (space ++ decim
 
 -- what is told of a record
 abbrev pub told : Entry → List ℕ
-told (Unread reason) = decimal (Layout.number_of reason)
-told (Run (Refused reason)) = decimal (Step.number_of reason)
-told (Run More) = more_word
-told (Run (Delivered words n)) = delivered_text words.id n
+told (Err reason) = decimal (Layout.number_of reason)
+told (Ok (Refused reason)) = decimal (Step.number_of reason)
+told (Ok More) = more_word
+told (Ok (Delivered words n)) = delivered_text words.id n
 
 -- the line of a record with that number
 unfoldable pub line_of : ℕ → Entry → List ℕ
@@ -57,12 +53,12 @@ abbrev pub lines : ℕ → List ℕ → List ℕ
 lines us log = lines_from 0 (listed us log)
 
 -- "the receiver we name in a four-byte file": its Receiver ID, little-endian as all numbers are
-unfoldable pub receiver_of : List ℕ → Receiver
-receiver_of file = cond (eqb (length file) 4) (Known (word 4 file)) Missing
+unfoldable pub receiver_of : List ℕ → Option ℕ
+receiver_of file = cond (eqb (length file) 4) (Some (word 4 file)) None
 
-abbrev pub output_for : Receiver → List ℕ → List ℕ
-output_for (Known us) log = lines us log
-output_for Missing log = no_receiver_def
+abbrev pub output_for : Option ℕ → List ℕ → List ℕ
+output_for (Some us) log = lines us log
+output_for None log = no_receiver_def
 
 -- all that is written for a receiver file and a log
 abbrev pub output_of : List ℕ → List ℕ → List ℕ

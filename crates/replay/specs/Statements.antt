@@ -1,6 +1,6 @@
 -- What is proved of a day and of its parts. The proofs are in `proofs/Days.antt` and `proofs/Parts.antt`, under the names given here.
 -- Assumes nothing.
-use Rattle.std.specs.Prelude.{ℕ, ◌+◌, ◌*◌, ◌%◌, ◌^◌, ◌≤◌, ◌<◌, ◌≡◌, ◌⊎◌, length, take, drop}
+use Rattle.std.specs.Prelude.{ℕ, ◌+◌, ◌*◌, ◌%◌, ◌^◌, ◌≤◌, ◌<◌, ◌≡◌, ◌⊎◌, Result, Some, None, Ok, Err, length, take, drop}
 use mathlib.Core.List.{List, [], ◌∷◌, ◌++◌, map, flatten, filter_map}
 use Rattle.std.proofs.Math.Option.{Option, none, some}
 use Rattle.le.specs.Word.{AreBytes}
@@ -11,8 +11,6 @@ use Rattle.framelog.specs.Layout.{record_size, frame_max, cut_of}
 use Rattle.framelog.specs.Reading.{read_of}
 use Rattle.framelog.specs.declared.Reason.{Reason}
 use Rattle.framelog.specs.declared.Reason.TheVariants.{WrongSize}
-use Rattle.framelog.specs.declared.Logged.{Logged}
-use Rattle.framelog.specs.declared.Logged.TheVariants.{Frame, Refused}
 use Rattle.reassembly.specs.Step.{Stepped}
 use Rattle.reassembly.specs.Run.{HandedUp, handed_up, answers, verdicts, up_by, messages}
 use Rattle.reassembly.specs.Statements.{NotBad}
@@ -21,13 +19,10 @@ use Rattle.reassembly.specs.declared.State.{State}
 use Rattle.reassembly.specs.declared.State.TheVariants.{Fresh, Open}
 use Rattle.reassembly.specs.declared.Verdict.TheVariants.{More, Delivered, Refused as Stopped}
 use Rattle.replay.specs.Log.{records, log_of}
-use Rattle.replay.specs.Day.{Stage, skipped, ran, play_of, stages, entries, cleared, listed}
+use Rattle.replay.specs.Day.{Entry, Stage, skipped, ran, play_of, stages, entries, cleared, listed}
 use Rattle.replay.specs.Lines.{lines_from, lines, no_receiver_def, receiver_of, output_of}
 use Rattle.replay.specs.Chunk.{starting, line_max, number_max, Span, played, output_after}
-use Rattle.replay.specs.declared.Entry.{Entry}
-use Rattle.replay.specs.declared.Entry.TheVariants.{Unread, Run}
 use Rattle.replay.specs.declared.Player.{Player}
-use Rattle.replay.specs.declared.Receiver.TheVariants.{Known, Missing}
 
 -- `records_are`. A log's records joined are the log: none of its bytes is passed over or read twice.
 abbrev pub RecordsAre : Type 0
@@ -45,7 +40,7 @@ abbrev pub ShortRefused : Type 0
 ShortRefused =
     (us : ℕ) (state : State) (buffer slice : List ℕ)
     → (length slice ≡ record_size → ⊥)
-    → play_of us state buffer slice ≡ skipped (Unread WrongSize) state buffer
+    → play_of us state buffer slice ≡ skipped (Err WrongSize) state buffer
 
 -- a frame that a record can hold
 abbrev pub Loggable : List ℕ → Type 0
@@ -63,12 +58,12 @@ abbrev pub FramesListed : Type 0
 FramesListed =
     (us : ℕ) (frames : List (List ℕ))
     → All Loggable frames
-    → listed us (log_of frames) ≡ map Run (verdicts us Fresh cleared frames)
+    → listed us (log_of frames) ≡ map Ok (verdicts us Fresh cleared frames)
 
 -- what a record hands up: what its frame does
 abbrev pub up_of : Entry → List ℕ → Option HandedUp
-up_of (Unread reason) buffer = none
-up_of (Run verdict) buffer = handed_up verdict buffer
+up_of (Err reason) buffer = none
+up_of (Ok verdict) buffer = handed_up verdict buffer
 
 abbrev pub up_of_stage : Stage → Option HandedUp
 up_of_stage s = up_of s.answer.entry s.buffer
@@ -97,10 +92,10 @@ pub record Delivery : Type 0 where
 
 -- what an entry says is delivered, and what is handed up without its bytes
 abbrev pub delivery_in : Entry → Option Delivery
-delivery_in (Unread reason) = none
-delivery_in (Run More) = none
-delivery_in (Run (Delivered words n)) = some (record { words = words; length = n })
-delivery_in (Run (Stopped reason)) = none
+delivery_in (Err reason) = none
+delivery_in (Ok More) = none
+delivery_in (Ok (Delivered words n)) = some (record { words = words; length = n })
+delivery_in (Ok (Stopped reason)) = none
 
 abbrev pub delivery_of : Option HandedUp → Option Delivery
 delivery_of none = none
@@ -117,15 +112,15 @@ DayLists =
 
 -- what the frames that are run come to, and the frames of the records that are read
 abbrev pub step_in : Entry → State → List ℕ → Option Stepped
-step_in (Unread reason) state buffer = none
-step_in (Run verdict) state buffer = some (record { answer = record { verdict = verdict; state = state }; buffer = buffer })
+step_in (Err reason) state buffer = none
+step_in (Ok verdict) state buffer = some (record { answer = record { verdict = verdict; state = state }; buffer = buffer })
 
 abbrev pub step_of_stage : Stage → Option Stepped
 step_of_stage s = step_in s.answer.entry s.answer.state s.buffer
 
-abbrev pub frame_of : Logged → List ℕ → Option (List ℕ)
-frame_of (Refused reason) slice = none
-frame_of (Frame n) slice = some (cut_of n slice)
+abbrev pub frame_of : Result ℕ Reason → List ℕ → Option (List ℕ)
+frame_of (Err reason) slice = none
+frame_of (Ok n) slice = some (cut_of n slice)
 
 abbrev pub frame_in : List ℕ → Option (List ℕ)
 frame_in slice = frame_of (read_of record_size slice) slice
@@ -139,12 +134,12 @@ RefusedApart =
 
 -- why a record is refused, if it is
 abbrev pub refusal_in : Entry → Option Reason
-refusal_in (Unread reason) = some reason
-refusal_in (Run verdict) = none
+refusal_in (Err reason) = some reason
+refusal_in (Ok verdict) = none
 
-abbrev pub refusal_of : Logged → Option Reason
-refusal_of (Refused reason) = some reason
-refusal_of (Frame n) = none
+abbrev pub refusal_of : Result ℕ Reason → Option Reason
+refusal_of (Err reason) = some reason
+refusal_of (Ok n) = none
 
 -- `own_numbers`. "A record refused with 50 to 53 gets its own number": record by record, the entry is the refusal that the log's reader gives, or none where it gives a frame.
 abbrev pub OwnNumbers : Type 0
@@ -250,9 +245,9 @@ AnyChunks =
 abbrev pub OutputIs : Type 0
 OutputIs =
     (file log : List ℕ)
-    → (receiver_of file ≡ Missing → output_of file log ≡ no_receiver_def)
+    → (receiver_of file ≡ None → output_of file log ≡ no_receiver_def)
     × ((us : ℕ) (buffer : List ℕ) (cs : List Call)
-    → receiver_of file ≡ Known us
+    → receiver_of file ≡ Some us
     → length buffer ≡ message_max
     → Chunked us starting buffer log cs
     → (session us starting buffer log cs).rest ≡ []

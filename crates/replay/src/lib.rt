@@ -2,37 +2,32 @@
 // each record.
 #![tactic(auto)]
 
-ghost use Rattle.std.specs.Prelude.{◌≡◌, ◌+◌, ◌≤◌, ◌<◌, ◌++◌, length};
+ghost use Rattle.std.specs.Prelude.{◌≡◌, ◌≤◌, ◌<◌, ◌++◌, Ok, length};
 ghost use Rattle.frame.specs.Layout.{message_max};
 ghost use Rattle.text.specs.Decimal.{decimal};
-ghost use Rattle.text.specs.Output.{Lies};
+ghost use Rattle.text.specs.Output.{HasRoom, Adds};
 ghost use Rattle.replay.specs.Day.{play_of, ran, Bounded, EntryBounded};
 ghost use Rattle.replay.specs.Lines.{space, no_receiver_def, receiver_of, delivered_text, told, line_of};
 ghost use Rattle.replay.specs.Helpers.{told_max};
 ghost use Rattle.replay.specs.Chunk.{starting, line_max, number_max, halts, line_for, next_player, played, answer_of, output_after};
 ghost use Rattle.reassembly.specs.Step.{step_of};
 
-use framelog::Logged;
+use le::Word;
 use reassembly::{State, Verdict};
+use text::Writer;
 
-// What a record comes to.
-#[derive(Clone, Copy)]
-pub enum Entry {
-    // 50 to 53: the record is refused, and its frame is not run.
-    Unread(framelog::Reason),
-    // The frame is run, and the reassembly answers.
-    Run(Verdict),
-}
+// What a record comes to: a refusal by 50 to 53, of which no frame is run, or what the reassembly answers to the frame.
+pub type Entry = Result<Verdict, framelog::Reason>;
 
 // An entry together with the state after it.
-#[derive(Clone, Copy)]
+#[derive(Clone, Copy, Debug, PartialEq, Eq)]
 pub struct Played {
     pub entry: Entry,
     pub state: State,
 }
 
 // What is kept between two parts of a log: the reassembly's state, and the number of the next record.
-#[derive(Clone, Copy)]
+#[derive(Clone, Copy, Debug, PartialEq, Eq)]
 pub struct Player {
     pub state: State,
     pub number: u64,
@@ -40,20 +35,11 @@ pub struct Player {
 
 // What was played of a part of a log: how many of its bytes, how many bytes of text were written, and the player
 // after that.
-#[derive(Clone, Copy)]
+#[derive(Clone, Copy, Debug, PartialEq, Eq)]
 pub struct Listed {
     pub read: usize,
     pub written: usize,
     pub player: Player,
-}
-
-// Whose frames are run.
-#[derive(Clone, Copy)]
-pub enum Receiver {
-    // Its Receiver ID.
-    Known(u32),
-    // The file is not four bytes.
-    Missing,
 }
 
 // The bytes of the reassembly's buffer.
@@ -61,7 +47,7 @@ pub const BUFFER_SIZE: usize = 4096;
 // The longest line: a record number of 20 digits, a Message ID of 10, a length of 4, and the words.
 pub const LINE_MAX: usize = 47;
 // No record gets this number: none would come after it.
-pub const NUMBER_MAX: u64 = 0xFFFF_FFFF_FFFF_FFFF;
+pub const NUMBER_MAX: u64 = u64::MAX;
 
 impl Player {
     // As a day starts.
@@ -75,18 +61,17 @@ impl Player {
     }
 }
 
-// A frame that is run.
+// A frame that is run. (`us` and `buffer` go side by side, here and below, as `reassembly::step` takes them: a struct of
+// both would only be taken apart for it.)
 fn run_frame(state: State, frame: &[u8], us: u32, buffer: &mut [u8; BUFFER_SIZE]) -> Played
     ensures value { result ≡ (ran (step_of us state buffer.old frame.now)).answer }
     ensures entry_bounded { EntryBounded result.entry }
     ensures buffer_after { buffer.new ≡ (ran (step_of us state buffer.old frame.now)).buffer }
 {
     let answer = reassembly::step(state, frame, us, buffer);
-    let verdict = answer.verdict;
-    let next = answer.state;
     Played {
-        entry: Entry::Run(verdict),
-        state: next,
+        entry: Ok(answer.verdict),
+        state: answer.state,
     }
 }
 
@@ -97,22 +82,19 @@ pub fn play(state: State, slice: &[u8], us: u32, buffer: &mut [u8; BUFFER_SIZE])
     ensures buffer_after { buffer.new ≡ (play_of us state buffer.old slice.now).buffer }
 {
     match framelog::read(slice) {
-        Logged::Refused(reason) => Played {
-            entry: Entry::Unread(reason),
+        Ok(n) => run_frame(state, framelog::cut(slice, n), us, buffer),
+        Err(reason) => Played {
+            entry: Err(reason),
             state,
         },
-        Logged::Frame(n) => run_frame(state, framelog::cut(slice, n), us, buffer),
     }
 }
 
-// The receiver that a file names: four bytes, little-endian.
-pub fn receiver_in(file: &[u8]) -> Receiver
+// The receiver that a file names, which is four bytes, little-endian; None of any other file.
+pub fn receiver_in(file: &[u8]) -> Option<u32>
     ensures { result ≡ receiver_of file.now }
 {
-    if file.len() == 4 {
-        return Receiver::Known(le::word::u32_at(file, 0));
-    }
-    Receiver::Missing
+    (file.len() == 4).then_some(u32::at(file, 0))
 }
 
 // All that is written where it names none.
@@ -122,76 +104,69 @@ pub fn no_receiver() -> [u8; 12]
     *b"no receiver\n"
 }
 
+// The lines are put by a writer, and not by `Display`: `write!` can fail, and std's clauses say of its text only what holds
+// where it does not, so that nothing would follow of a line for which there is room. Each function asks for the room of its own
+// text, and of an entry that it is bounded: no type says that, since the rooms differ, and a `Played` is what any caller may make.
+
 // Puts a space and a number.
-fn put_spaced(n: u32, at: usize, out: &mut [u8]) -> usize
-    requires { at + length (space ++ decimal n) ≤ length out.old }
-    ensures { Lies at (space ++ decimal n) out.old result out.new }
+fn put_spaced(n: u32, text: &mut Writer)
+    requires { HasRoom (length (space ++ decimal n)) text.old }
+    ensures { Adds (space ++ decimal n) text.old text.new }
 {
-    let spaced = text::put(b" ", at, out);
-    text::put_decimal(n as u64, spaced, out)
+    text.put(b" ");
+    text.put_decimal(n as u64);
 }
 
 // Puts a space and what is told of a message that is delivered.
-fn put_delivered(id: u32, n: usize, at: usize, out: &mut [u8]) -> usize
-    requires { (n ≤ message_max) × (at + told_max ≤ length out.old) }
-    ensures lies { Lies at (space ++ delivered_text id n) out.old result out.new }
-    ensures upper_bound { result ≤ at + told_max }
+fn put_delivered(id: u32, n: usize, text: &mut Writer)
+    requires { (n ≤ message_max) × HasRoom told_max text.old }
+    ensures adds { Adds (space ++ delivered_text id n) text.old text.new }
+    ensures short { length (space ++ delivered_text id n) ≤ told_max }
 {
-    let worded = text::put(b" delivered", at, out);
-    let named = put_spaced(id, worded, out);
-    put_spaced(n as u32, named, out)
+    text.put(b" delivered");
+    put_spaced(id, text);
+    put_spaced(n as u32, text);
 }
 
-fn put_verdict(verdict: Verdict, at: usize, out: &mut [u8]) -> usize
-    requires { Bounded verdict × (at + told_max ≤ length out.old) }
-    ensures lies { Lies at (space ++ told (Entry.Run verdict)) out.old result out.new }
-    ensures upper_bound { result ≤ at + told_max }
+fn put_verdict(verdict: Verdict, text: &mut Writer)
+    requires { Bounded verdict × HasRoom told_max text.old }
+    ensures adds { Adds (space ++ told (Ok verdict)) text.old text.new }
+    ensures short { length (space ++ told (Ok verdict)) ≤ told_max }
 {
     match verdict {
-        Verdict::More => text::put(b" more", at, out),
-        Verdict::Delivered(words, n) => put_delivered(words.id, n, at, out),
-        Verdict::Refused(reason) => put_spaced(reason.number(), at, out),
+        Verdict::More => text.put(b" more"),
+        Verdict::Delivered(words, n) => put_delivered(words.id, n, text),
+        Verdict::Refused(reason) => put_spaced(reason.number(), text),
     }
 }
 
 // Puts a space and what is told of a record.
-fn put_told(entry: Entry, at: usize, out: &mut [u8]) -> usize
-    requires { EntryBounded entry × (at + told_max ≤ length out.old) }
-    ensures lies { Lies at (space ++ told entry) out.old result out.new }
-    ensures upper_bound { result ≤ at + told_max }
+fn put_told(entry: Entry, text: &mut Writer)
+    requires { EntryBounded entry × HasRoom told_max text.old }
+    ensures adds { Adds (space ++ told entry) text.old text.new }
+    ensures short { length (space ++ told entry) ≤ told_max }
 {
     match entry {
-        Entry::Unread(reason) => put_spaced(reason.number(), at, out),
-        Entry::Run(verdict) => put_verdict(verdict, at, out),
+        Ok(verdict) => put_verdict(verdict, text),
+        Err(reason) => put_spaced(reason.number(), text),
     }
 }
 
 // Puts the line of a record.
-fn put_line(number: u64, entry: Entry, at: usize, out: &mut [u8]) -> usize
-    requires { EntryBounded entry × (at + line_max ≤ length out.old) }
-    ensures lies { Lies at (line_of number entry) out.old result out.new }
-    ensures upper_bound { result ≤ at + line_max }
+fn put_line(number: u64, entry: Entry, text: &mut Writer)
+    requires { EntryBounded entry × HasRoom line_max text.old }
+    ensures { Adds (line_of number entry) text.old text.new }
 {
-    let numbered = text::put_decimal(number, at, out);
-    let said = put_told(entry, numbered, out);
-    text::put(b"\n", said, out)
+    text.put_decimal(number);
+    put_told(entry, text);
+    text.put(b"\n");
 }
 
 // Whether playing stops before a record, where the output has so much room left.
 fn must_halt(player: Player, room: usize) -> bool
     ensures { result ≡ halts room player }
 {
-    if room < LINE_MAX {
-        return true;
-    }
-    NUMBER_MAX <= player.number
-}
-
-// The place behind a record's line, and the player after that record.
-#[derive(Clone, Copy)]
-struct Line {
-    place: usize,
-    player: Player,
+    room < LINE_MAX || NUMBER_MAX <= player.number
 }
 
 // Plays a record, and puts its line.
@@ -200,27 +175,18 @@ fn play_line(
     slice: &[u8],
     us: u32,
     buffer: &mut [u8; BUFFER_SIZE],
-    at: usize,
-    out: &mut [u8],
-) -> Line
-    requires { (player.number < number_max) × (at + line_max ≤ length out.old) }
-    ensures player_value { result.player ≡ next_player player (play_of us player.state buffer.old slice.now) }
-    ensures lies { Lies at (line_for player (play_of us player.state buffer.old slice.now)) out.old result.place out.new }
-    ensures place_bound { result.place ≤ at + line_max }
+    text: &mut Writer,
+) -> Player
+    requires { (player.number < number_max) × HasRoom line_max text.old }
+    ensures value { result ≡ next_player player (play_of us player.state buffer.old slice.now) }
+    ensures adds { Adds (line_for player (play_of us player.state buffer.old slice.now)) text.old text.new }
     ensures buffer_after { buffer.new ≡ (play_of us player.state buffer.old slice.now).buffer }
 {
-    let before = player.state;
-    let done = play(before, slice, us, buffer);
-    let entry = done.entry;
-    let state = done.state;
-    let place = put_line(player.number, entry, at, out);
-    let next = Player {
-        state,
+    let done = play(player.state, slice, us, buffer);
+    put_line(player.number, done.entry, text);
+    Player {
+        state: done.state,
         number: player.number + 1,
-    };
-    Line {
-        place,
-        player: next,
     }
 }
 
@@ -239,27 +205,19 @@ pub fn play_chunk(
     ensures buffer_after { buffer.new ≡ (played us player buffer.old chunk.now (length out.old)).buffer }
     ensures out_after { out.new ≡ output_after (played us player buffer.old chunk.now (length out.old)) out.old }
 {
+    let mut text = Writer { out, at: 0 };
     let mut current = player;
     let mut read = 0;
-    let mut written = 0;
-    while read < chunk.len() {
-        if must_halt(current, out.len() - written) {
-            return Listed {
-                read,
-                written,
-                player: current,
-            };
+    for slice in chunk.chunks(framelog::RECORD_SIZE) {
+        if must_halt(current, text.out.len() - text.at) {
+            break;
         }
-        let slice = le::head(le::tail(chunk, read), framelog::RECORD_SIZE);
-        let line = play_line(current, slice, us, buffer, written, out);
-        let next = line.player;
-        current = next;
-        written = line.place;
+        current = play_line(current, slice, us, buffer, &mut text);
         read += slice.len();
     }
     Listed {
         read,
-        written,
+        written: text.at,
         player: current,
     }
 }

@@ -10,6 +10,7 @@ use native.Mathlib.Omega.{arith}
 use lib.Dec.{eqb}
 use lib.ListN.{length, take, drop, length-append}
 use lib.Seq.{take_at, drop_at, drop-drop}
+use Rattle.std.specs.Prelude.{Some, Ok}
 use Rattle.le.specs.Word.{word, bytes}
 use Rattle.le.specs.Sum.{sum, checksum_of}
 use Rattle.le.proofs.Words.{word_bytes, length-bytes}
@@ -18,14 +19,12 @@ use Rattle.sfi.specs.Kinds.{wake, kind_of}
 use Rattle.sfi.specs.Checks.{header_size, length_max, signature_of, length_of_def, revision_of, bad_length, uneven, is_wake, bad_entries, checked}
 use Rattle.sfi.specs.Statements.{head_of, table_of, LaidPasses}
 use Rattle.sfi.specs.declared.kind.Kind.{Kind}
-use Rattle.sfi.specs.declared.kind.Known.TheVariants.{Is}
-use Rattle.sfi.specs.declared.Checked.TheVariants.{Passed}
 use Rattle.sfi.proofs.Listing.{listed}
 use Rattle.sfi.proofs.Answers.{good_length, entries_tested, judged_tested, header_tested, sum_tested}
 use Rattle.sfi.proofs.Theorems.{kinds_known, same_kind}
 
 module _ (kind : Kind) (revision : ℕ) (oem entries rest : List ℕ)
-    (is : kind_of kind.signature ≡ Is kind)
+    (is : kind_of kind.signature ≡ Some kind)
     (from : kind.revision ≤ revision)
     (byte : revision < 256)
     (strings : length oem ≡ 14)
@@ -76,7 +75,7 @@ module _ (kind : Kind) (revision : ℕ) (oem entries rest : List ℕ)
       let size : length table ≡ total + length rest = length-append (table_of kind revision oem entries) rest ∙ ap (λ (n : ℕ). n + length rest) table_length in
       rw (length_is, size) (good_length (total + length rest) total (record { slice = omega arith; least = omega arith; most = most; inside = omega arith }))
 
-  laid : bad_entries kind total ≡ false → checked table ≡ Passed (record { kind = kind; length = total })
+  laid : bad_entries kind total ≡ false → checked table ≡ Ok (record { kind = kind; length = total })
   laid even =
       sum_tested table (record { kind = kind; length = total })
       (header_tested (length table) table good (ap (λ (n : ℕ). kind_of n) signature_is ∙ is)
@@ -84,7 +83,7 @@ module _ (kind : Kind) (revision : ℕ) (oem entries rest : List ℕ)
       (ap (λ (n : ℕ). not (eqb n 0)) sums)
 
 -- whole entries, and one for WAKE, make a good Length
-whole_entries : (kind : Kind) (n total : ℕ) → kind_of kind.signature ≡ Is kind → total ≡ header_size + n * kind.entry → (kind.signature ≡ wake.signature → n ≡ 1)
+whole_entries : (kind : Kind) (n total : ℕ) → kind_of kind.signature ≡ Some kind → total ≡ header_size + n * kind.entry → (kind.signature ≡ wake.signature → n ≡ 1)
     → bad_entries kind total ≡ false
 whole_entries kind n total is long one = go (is_wake kind) refl
   where

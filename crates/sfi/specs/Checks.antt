@@ -1,19 +1,13 @@
 -- Document 01, "SFI tables" (002), as 02 changes it (Q-1): the check of a table, and its entries.
 -- Assumes nothing.
-use Rattle.std.specs.Prelude.{ℕ, ◌+◌, ◌*◌, ◌-◌, ◌/◌, ◌%◌, Bool, false, cond, not, ◌&&◌, ◌||◌, List, ltb, eqb, length, take, drop}
+use Rattle.std.specs.Prelude.{ℕ, ◌+◌, ◌*◌, ◌-◌, ◌/◌, ◌%◌, Bool, false, cond, not, ◌&&◌, ◌||◌, List, ltb, eqb, length, take, drop, Option, None, Some, Result, Ok, Err}
 use Rattle.le.specs.Word.{word}
 use Rattle.le.specs.Sum.{sum}
 use Rattle.sfi.specs.Kinds.{wake, kind_of}
 use Rattle.sfi.specs.declared.kind.Kind.{Kind}
-use Rattle.sfi.specs.declared.kind.Known.{Known}
-use Rattle.sfi.specs.declared.kind.Known.TheVariants.{Is, Unknown}
 use Rattle.sfi.specs.declared.Table.{Table}
 use Rattle.sfi.specs.declared.Reason.{Reason}
 use Rattle.sfi.specs.declared.Reason.TheVariants.{BadLength, WrongSum, UnknownSignature, BadEntries, WrongRevision, NoEntry, BadMemory, NoSyst, Neither}
-use Rattle.sfi.specs.declared.Checked.{Checked}
-use Rattle.sfi.specs.declared.Checked.TheVariants.{Passed, Refused as Failed}
-use Rattle.sfi.specs.declared.Entry.{Entry}
-use Rattle.sfi.specs.declared.Entry.TheVariants.{At, Refused as NotThere}
 
 abbrev pub number_of : Reason → ℕ
 number_of BadLength = 40
@@ -88,20 +82,20 @@ unfoldable pub bad_entries : Kind → ℕ → Bool
 bad_entries kind total = uneven kind total || (is_wake kind && not_one_entry total)
 
 -- 44 and 43, of a table of that kind
-unfoldable pub judged : Kind → List ℕ → Checked
+unfoldable pub judged : Kind → List ℕ → Result Table Reason
 judged kind header =
-    cond (older_revision kind (revision_of header)) (Failed WrongRevision)
-    (cond (bad_entries kind (length_of_def header)) (Failed BadEntries)
-    (Passed (record { kind = kind; length = length_of_def header })))
+    cond (older_revision kind (revision_of header)) (Err WrongRevision)
+    (cond (bad_entries kind (length_of_def header)) (Err BadEntries)
+    (Ok (record { kind = kind; length = length_of_def header })))
 
-abbrev pub judged_as : Known → List ℕ → Checked
-judged_as (Is kind) header = judged kind header
-judged_as Unknown header = Failed UnknownSignature
+abbrev pub judged_as : Option Kind → List ℕ → Result Table Reason
+judged_as (Some kind) header = judged kind header
+judged_as None header = Err UnknownSignature
 
 -- 40, 42, 44 and 43: what the slice's size and its first 24 bytes tell (`header_alone`)
-unfoldable pub header_checked : ℕ → List ℕ → Checked
+unfoldable pub header_checked : ℕ → List ℕ → Result Table Reason
 header_checked size header =
-    cond (bad_length size (length_of_def header)) (Failed BadLength)
+    cond (bad_length size (length_of_def header)) (Err BadLength)
     (judged_as (kind_of (signature_of header)) header)
 
 -- "All Length bytes sum to 0 modulo 256"
@@ -112,12 +106,12 @@ summed_part table t = take table.length t
 abbrev pub wrong_sum : List ℕ → Bool
 wrong_sum part = not (eqb (sum 1 part) 0)
 
-abbrev pub summed : Checked → List ℕ → Checked
-summed (Failed reason) t = Failed reason
-summed (Passed table) t = cond (wrong_sum (summed_part table t)) (Failed WrongSum) (Passed table)
+abbrev pub summed : Result Table Reason → List ℕ → Result Table Reason
+summed (Err reason) t = Err reason
+summed (Ok table) t = cond (wrong_sum (summed_part table t)) (Err WrongSum) (Ok table)
 
 -- what the check of a table answers, the header first and then the sum: its kind, and its Length
-unfoldable pub checked : List ℕ → Checked
+unfoldable pub checked : List ℕ → Result Table Reason
 checked t = summed (header_checked (length t) t) t
 
 -- how many entries a table has, and where each stands
@@ -128,14 +122,14 @@ abbrev pub entry_at : Table → ℕ → ℕ
 entry_at table k = header_size + k * table.kind.entry
 
 -- "the table's refusals first, then 45 if it has no such entry, else the answer is its offset"
-abbrev pub entry_in : Checked → ℕ → Entry
-entry_in (Failed reason) k = NotThere reason
-entry_in (Passed table) k = cond (ltb k (entries_of table)) (At (entry_at table k)) (NotThere NoEntry)
+abbrev pub entry_in : Result Table Reason → ℕ → Result ℕ Reason
+entry_in (Err reason) k = Err reason
+entry_in (Ok table) k = cond (ltb k (entries_of table)) (Ok (entry_at table k)) (Err NoEntry)
 
-abbrev pub entry_of : List ℕ → ℕ → Entry
+abbrev pub entry_of : List ℕ → ℕ → Result ℕ Reason
 entry_of t k = entry_in (checked t) k
 
 -- whether a table passes, and has that signature
-abbrev pub passes_as_def : ℕ → Checked → Bool
-passes_as_def signature (Passed table) = eqb table.kind.signature signature
-passes_as_def signature (Failed reason) = false
+abbrev pub passes_as_def : ℕ → Result Table Reason → Bool
+passes_as_def signature (Ok table) = eqb table.kind.signature signature
+passes_as_def signature (Err reason) = false

@@ -1,10 +1,8 @@
 -- Document 01, "SFI tables": "Each table kind carries its own entry size and revision". One table of the kinds, which check, entry, search and choice all cite.
 -- A revision is the oldest that is read (Q-1).
 -- Assumes nothing.
-use Rattle.std.specs.Prelude.{ℕ, cond, List, [], ◌∷◌, eqb}
+use Rattle.std.specs.Prelude.{ℕ, cond, List, [], ◌∷◌, eqb, Option, None, Some}
 use Rattle.sfi.specs.declared.kind.Kind.{Kind}
-use Rattle.sfi.specs.declared.kind.Known.{Known}
-use Rattle.sfi.specs.declared.kind.Known.TheVariants.{Is, Unknown}
 
 -- a signature is the little-endian word of its four letters (`signatures_spell`)
 abbrev pub syst : Kind
@@ -42,9 +40,9 @@ abbrev pub kinds : List Kind
 kinds = syst ∷ cpus ∷ apic ∷ mmap ∷ freq ∷ mrtc ∷ devs ∷ gpio ∷ mtmr ∷ wake ∷ []
 
 -- the kind with a signature, of a list
-unfoldable pub among : List Kind → ℕ → Known
-among [] signature = Unknown
-among (k ∷ ks) signature = cond (eqb signature k.signature) (Is k) (among ks signature)
+unfoldable pub among : List Kind → ℕ → Option Kind
+among [] signature = None
+among (k ∷ ks) signature = cond (eqb signature k.signature) (Some k) (among ks signature)
 
-abbrev pub kind_of : ℕ → Known
+abbrev pub kind_of : ℕ → Option Kind
 kind_of signature = among kinds signature

@@ -1,11 +1,10 @@
 -- Document 01, "SFI tables": finding SYST.
 -- Assumes nothing.
-use Rattle.std.specs.Prelude.{ℕ, zero, suc, ◌+◌, ◌%◌, Bool, cond, not, ◌&&◌, List, [], ◌∷◌, leb, eqb, length, drop}
+use Rattle.std.specs.Prelude.{ℕ, zero, suc, ◌+◌, ◌%◌, Bool, cond, not, ◌&&◌, List, [], ◌∷◌, leb, eqb, length, drop, Result, Ok, Err}
 use Rattle.sfi.specs.Kinds.{syst}
 use Rattle.sfi.specs.Checks.{length_of_def, checked, passes_as_def}
+use Rattle.sfi.specs.declared.Reason.{Reason}
 use Rattle.sfi.specs.declared.Reason.TheVariants.{BadMemory, NoSyst}
-use Rattle.sfi.specs.declared.search.Found.{Found}
-use Rattle.sfi.specs.declared.search.Found.TheVariants.{At, Refused}
 
 -- "the slice is 0xE0000 to 0xFFFFF, 131,072 bytes"; "Every 16th byte is tried"
 abbrev pub memory_size : ℕ
@@ -35,11 +34,11 @@ places zero at = []
 places (suc n) at = at ∷ places n (at + step)
 
 -- "The answer is the first hit's offset; 47 exactly if there is no hit."
-unfoldable pub first_hit : List ℕ → List ℕ → Found
-first_hit memory [] = Refused NoSyst
-first_hit memory (at ∷ rest) = cond (is_hit_def memory at) (At at) (first_hit memory rest)
+unfoldable pub first_hit : List ℕ → List ℕ → Result ℕ Reason
+first_hit memory [] = Err NoSyst
+first_hit memory (at ∷ rest) = cond (is_hit_def memory at) (Ok at) (first_hit memory rest)
 
-unfoldable pub located : List ℕ → Found
+unfoldable pub located : List ℕ → Result ℕ Reason
 located memory =
-    cond (not (eqb (length memory) memory_size)) (Refused BadMemory)
+    cond (not (eqb (length memory) memory_size)) (Err BadMemory)
     (first_hit memory (places tries 0))

@@ -3,10 +3,11 @@ ghost use Rattle.std.specs.Prelude.{◌≡◌, ◌≤◌, ◌<◌};
 ghost use Rattle.sfi.specs.Kinds as Kinds;
 ghost use Rattle.sfi.specs.Checks.{header_size, length_of_def, older_revision, bad_entries, judged};
 
-use crate::{Checked, Reason, Table, length_of};
+use crate::{Reason, Table, length_of};
+use le::Word;
 
 // A kind of table.
-#[derive(Clone, Copy)]
+#[derive(Clone, Copy, Debug, PartialEq, Eq)]
 pub struct Kind {
     pub signature: u32,
     // The size of an entry.
@@ -15,12 +16,8 @@ pub struct Kind {
     pub revision: u8,
 }
 
-#[derive(Clone, Copy)]
-pub enum Known {
-    Is(Kind),
-    Unknown,
-}
-
+// Constants and a constructor for each of the ten: the scope names this form. A constant's value can call
+// nothing, not even `u32::from_le_bytes(*b"SYST")`, so the letters are written as their word.
 impl Kind {
     pub const SYST: u32 = 0x5453_5953;
 
@@ -184,40 +181,23 @@ impl Kind {
     }
 
     // The kind with that signature.
-    pub fn of(signature: u32) -> Known
+    #[tactic(auto, unfolding(crate::specs::Kinds::among))]
+    pub fn of(signature: u32) -> Option<Self>
         ensures { result ≡ Kinds.kind_of signature }
     {
-        if signature == Self::SYST {
-            return Known::Is(Self::syst());
+        match signature {
+            Self::SYST => Some(Self::syst()),
+            Self::CPUS => Some(Self::cpus()),
+            Self::APIC => Some(Self::apic()),
+            Self::MMAP => Some(Self::mmap()),
+            Self::FREQ => Some(Self::freq()),
+            Self::MRTC => Some(Self::mrtc()),
+            Self::DEVS => Some(Self::devs()),
+            Self::GPIO => Some(Self::gpio()),
+            Self::MTMR => Some(Self::mtmr()),
+            Self::WAKE => Some(Self::wake()),
+            _ => None,
         }
-        if signature == Self::CPUS {
-            return Known::Is(Self::cpus());
-        }
-        if signature == Self::APIC {
-            return Known::Is(Self::apic());
-        }
-        if signature == Self::MMAP {
-            return Known::Is(Self::mmap());
-        }
-        if signature == Self::FREQ {
-            return Known::Is(Self::freq());
-        }
-        if signature == Self::MRTC {
-            return Known::Is(Self::mrtc());
-        }
-        if signature == Self::DEVS {
-            return Known::Is(Self::devs());
-        }
-        if signature == Self::GPIO {
-            return Known::Is(Self::gpio());
-        }
-        if signature == Self::MTMR {
-            return Known::Is(Self::mtmr());
-        }
-        if signature == Self::WAKE {
-            return Known::Is(Self::wake());
-        }
-        Known::Unknown
     }
 
     // Whether a Revision is older than the listed one. Newer ones stay readable.
@@ -228,31 +208,27 @@ impl Kind {
     }
 
     // Whether a Length is not that of whole entries of this kind, or of other than one for WAKE.
+    #[tactic(auto, unfolding(crate::specs::Checks::bad_entries))]
     fn has_bad_entries(self, length: usize) -> bool
-        requires { (0 < self.entry) × (header_size ≤ length) }
         ensures { result ≡ bad_entries self length }
     {
-        if (length - Table::HEADER) % self.entry != 0 {
-            return true;
-        }
-        if self.signature != Self::WAKE {
-            return false;
-        }
-        length != Table::WAKE_LENGTH
+        let entries = length.saturating_sub(Table::HEADER);
+        !entries.is_multiple_of(self.entry)
+            || self.signature == Self::WAKE && length != Table::WAKE_LENGTH
     }
 
     // 44 and 43, of a table of this kind.
-    pub(crate) fn judge(self, header: &[u8]) -> Checked
-        requires { (0 < self.entry) × (header_size ≤ length_of_def header.now) }
+    #[tactic(auto, unfolding(crate::specs::Checks::judged))]
+    pub(crate) fn judge(self, header: &[u8]) -> Result<Table, Reason>
         ensures { result ≡ judged self header.now }
     {
-        if self.has_older_revision(le::word::u8_at(header, 8)) {
-            return Checked::Refused(Reason::WrongRevision);
+        if self.has_older_revision(u8::at(header, 8)) {
+            return Err(Reason::WrongRevision);
         }
         let length = length_of(header);
         if self.has_bad_entries(length) {
-            return Checked::Refused(Reason::BadEntries);
+            return Err(Reason::BadEntries);
         }
-        Checked::Passed(Table { kind: self, length })
+        Ok(Table { kind: self, length })
     }
 }

@@ -6,21 +6,21 @@ pub mod choice;
 pub mod kind;
 pub mod search;
 
-ghost use Rattle.std.specs.Prelude.{◌≡◌, ◌≤◌, ◌<◌};
-ghost use Rattle.sfi.specs.declared.Checked.TheVariants.{Passed};
+ghost use Rattle.std.specs.Prelude.{◌≡◌, ◌≤◌, ◌<◌, Ok, length};
 ghost use Rattle.sfi.specs.Checks.{header_size, length_of_def, number_of, bad_length, header_checked, checked, entry_in, entry_of};
 
-use kind::{Kind, Known};
+use kind::Kind;
+use le::Word;
 
 // A table that passes its checks: its kind, and its Length.
-#[derive(Clone, Copy)]
+#[derive(Clone, Copy, Debug, PartialEq, Eq)]
 pub struct Table {
     pub kind: Kind,
     pub length: usize,
 }
 
 // Why a table, an entry, a search or a choice is refused.
-#[derive(Clone, Copy)]
+#[derive(Clone, Copy, Debug, PartialEq, Eq)]
 pub enum Reason {
     // 40: slice under 24 bytes, Length under 24, over 65,536 or past the slice.
     BadLength,
@@ -40,19 +40,6 @@ pub enum Reason {
     NoSyst,
     // 48: neither table passes with that signature.
     Neither,
-}
-
-#[derive(Clone, Copy)]
-pub enum Checked {
-    Passed(Table),
-    Refused(Reason),
-}
-
-#[derive(Clone, Copy)]
-pub enum Entry {
-    // Where the entry starts in the table.
-    At(usize),
-    Refused(Reason),
 }
 
 impl Reason {
@@ -78,25 +65,20 @@ impl Reason {
 pub fn length_of(table: &[u8]) -> usize
     ensures { result ≡ length_of_def table.now }
 {
-    le::word::u32_at(table, 4) as usize
+    u32::at(table, 4) as usize
 }
 
-// Whether Length is not legal in a slice of that size. The size is tested before anything is read, so that in
-// a slice of that size each read behind it is one load.
-fn is_bad_length(size: usize, header: &[u8]) -> bool
-    ensures { result ≡ bad_length size (length_of_def header.now) }
+// Whether Length is not legal in a slice. Its size is tested before anything is read, so that each read behind that is
+// one load.
+#[tactic(auto, unfolding(crate::specs::Checks::bad_length))]
+fn is_bad_length(table: &[u8]) -> bool
+    ensures { result ≡ bad_length (length table.now) (length_of_def table.now) }
 {
-    if size < Table::HEADER {
+    if table.len() < Table::HEADER {
         return true;
     }
-    let length = length_of(header);
-    if length < Table::HEADER {
-        return true;
-    }
-    if Table::LENGTH_MAX < length {
-        return true;
-    }
-    size < length
+    let length = length_of(table);
+    length < Table::HEADER || Table::LENGTH_MAX < length || table.len() < length
 }
 
 impl Table {
@@ -107,52 +89,46 @@ impl Table {
     pub const WAKE_LENGTH: usize = 32;
 
     // 40, 42, 44 and 43: what a slice's size and its first 24 bytes tell.
-    fn check_header(size: usize, header: &[u8]) -> Checked
-        ensures { result ≡ header_checked size header.now }
+    #[tactic(auto, unfolding(crate::specs::Checks::header_checked))]
+    fn check_header(table: &[u8]) -> Result<Table, Reason>
+        ensures { result ≡ header_checked (length table.now) table.now }
     {
-        if is_bad_length(size, header) {
-            return Checked::Refused(Reason::BadLength);
+        if is_bad_length(table) {
+            return Err(Reason::BadLength);
         }
-        match Kind::of(le::word::u32_at(header, 0)) {
-            Known::Unknown => Checked::Refused(Reason::UnknownSignature),
-            Known::Is(kind) => kind.judge(header),
-        }
+        Kind::of(u32::at(table, 0))
+            .ok_or(Reason::UnknownSignature)?
+            .judge(table)
     }
 
     // The table at a slice's start, or the first reason to refuse it. Bytes behind Length don't count.
-    pub fn check(table: &[u8]) -> Checked
+    #[tactic(auto, unfolding(crate::specs::Checks::checked))]
+    pub fn check(table: &[u8]) -> Result<Table, Reason>
         ensures { result ≡ checked table.now }
     {
-        match Self::check_header(table.len(), table) {
-            Checked::Refused(reason) => Checked::Refused(reason),
-            Checked::Passed(t) => {
-                if le::sum::sum8(le::head(table, t.length)) != 0 {
-                    return Checked::Refused(Reason::WrongSum);
-                }
-                Checked::Passed(t)
-            }
+        let t = Self::check_header(table)?;
+        if le::sum::sum::<u8>(le::head(table, t.length)) != 0 {
+            return Err(Reason::WrongSum);
         }
+        Ok(t)
     }
 
     // Where entry k starts in this table, or 45.
-    fn find_entry(self, k: usize) -> Entry
+    fn find_entry(self, k: usize) -> Result<usize, Reason>
         requires { (0 < self.kind.entry) × (header_size ≤ self.length) }
-        ensures { result ≡ entry_in (Passed self) k }
+        ensures { result ≡ entry_in (Ok self) k }
     {
         let size = self.kind.entry;
         if (self.length - Self::HEADER) / size <= k {
-            return Entry::Refused(Reason::NoEntry);
+            return Err(Reason::NoEntry);
         }
-        Entry::At(Self::HEADER + k * size)
+        Ok(Self::HEADER + k * size)
     }
 
-    // Where entry k, counted from 0, starts; or the first reason to refuse the table, or 45.
-    pub fn entry(table: &[u8], k: usize) -> Entry
+    // Where entry k, counted from 0, starts in the table; or the first reason to refuse the table, or 45.
+    pub fn entry(table: &[u8], k: usize) -> Result<usize, Reason>
         ensures { result ≡ entry_of table.now k }
     {
-        match Self::check(table) {
-            Checked::Refused(reason) => Entry::Refused(reason),
-            Checked::Passed(t) => t.find_entry(k),
-        }
+        Self::check(table)?.find_entry(k)
     }
 }

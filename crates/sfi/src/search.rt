@@ -3,53 +3,36 @@ ghost use Rattle.std.specs.Prelude.{◌≡◌};
 ghost use Rattle.sfi.specs.Search.{is_hit_def, located};
 
 use crate::kind::Kind;
-use crate::{Checked, Reason, Table, length_of};
-
-#[derive(Clone, Copy)]
-pub enum Found {
-    // Where SYST starts in the memory.
-    At(usize),
-    Refused(Reason),
-}
+use crate::{Reason, Table, length_of};
+use le::Word;
 
 pub const MEMORY_SIZE: usize = 131072;
-// Every 16th byte is tried, so there are 8,192 places.
+// Every 16th byte is tried.
 const STEP: usize = 16;
-
-const TRIES: usize = 8192;
 
 const PAGE_SIZE: usize = 4096;
 
 // Whether SYST stands there, inside one page. What costs least is tested first.
+#[tactic(auto, using(crate::proofs::Searching::tested))]
 fn is_hit(memory: &[u8], at: usize) -> bool
     ensures { result ≡ is_hit_def memory.now at }
 {
     let table = le::tail(memory, at);
-    if le::word::u32_at(table, 0) != Kind::SYST {
-        return false;
-    }
-    if PAGE_SIZE - at % PAGE_SIZE < length_of(table) {
-        return false;
-    }
-    match Table::check(table) {
-        Checked::Passed(_) => true,
-        Checked::Refused(_) => false,
-    }
+    u32::at(table, 0) == Kind::SYST
+        && length_of(table) <= PAGE_SIZE - at % PAGE_SIZE
+        && Table::check(table).is_ok()
 }
 
-// The lowest place at which SYST stands, or 46 or 47.
-pub fn find_syst(memory: &[u8]) -> Found
+// Where SYST starts in the memory, the lowest such place, or 46 or 47.
+#[tactic(auto, unfolding(crate::specs::Search::located))]
+pub fn find_syst(memory: &[u8]) -> Result<usize, Reason>
     ensures { result ≡ located memory.now }
 {
     if memory.len() != MEMORY_SIZE {
-        return Found::Refused(Reason::BadMemory);
+        return Err(Reason::BadMemory);
     }
-    let mut i = 0;
-    while i < TRIES {
-        if is_hit(memory, STEP * i) {
-            return Found::At(STEP * i);
-        }
-        i += 1;
-    }
-    Found::Refused(Reason::NoSyst)
+    (0..MEMORY_SIZE)
+        .step_by(STEP)
+        .find(|at| is_hit(memory, *at))
+        .ok_or(Reason::NoSyst)
 }

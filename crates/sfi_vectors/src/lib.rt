@@ -1,11 +1,12 @@
-// The numbers to check by for SFI tables, and every refusal of theirs: a part of the program `vectors`. Each group of lines is one
-// text, whose numbers are what the calls answered, with a place for each kind of answer: 0 stands where it was of another kind.
+// The numbers to check by for SFI tables, and every refusal of theirs: a part of the program `vectors`.
 #![tactic(auto)]
 
-use sfi::choice::Chosen;
+use report::{Lossy, Refused};
+use sfi::choice::Source;
 use sfi::kind::Kind;
-use sfi::search::Found;
-use sfi::{Checked, Entry, Table};
+use sfi::search::MEMORY_SIZE;
+use sfi::{Reason, Table};
+use std::{fmt, io};
 
 // The four letters `CPUX`.
 const NO_KIND: u32 = 0x5855_5043;
@@ -24,14 +25,14 @@ const SECOND_AT: usize = 8192;
 
 // The Checksum of a table in which it still stands as 0.
 fn checksum(table: &[u8]) -> u8 {
-    std::num::wrapping_sub_u8(0, le::sum::sum8(table))
+    le::sum::sum::<u8>(table).wrapping_neg()
 }
 
 // A table whose Checksum is 0. The longest here is MMAP with two entries.
 fn unsealed(signature: u32, length: u32, revision: u8) -> [u8; 96] {
-    let mut table = [0u8; 96];
-    let words = (length as u64) << 32 | signature as u64;
-    le::copy(&le::word::u64_bytes(words), &mut table);
+    let mut table = [0; 96];
+    le::copy(&signature.to_le_bytes(), &mut table);
+    le::copy(&length.to_le_bytes(), &mut table[LENGTH..]);
     table[REVISION] = revision;
     table
 }
@@ -43,235 +44,156 @@ fn laid(signature: u32, length: u32, revision: u8) -> [u8; 96] {
     table
 }
 
-// A number that was given, or the refusal.
-#[derive(Drop)]
-struct Said {
-    given: u64,
-    refusal: u64,
-}
+// A signature's four letters.
+#[derive(Clone, Copy)]
+struct Letters(u32);
 
-fn given(n: usize) -> Said {
-    Said {
-        given: n as u64,
-        refusal: 0,
+impl fmt::Display for Letters {
+    fn fmt<W: fmt::Write>(&self, f: &mut fmt::Formatter<W>) -> fmt::Result {
+        for letter in self.0.to_le_bytes().iter() {
+            write!(f, "{}", char::from(*letter))?;
+        }
+        Ok(())
     }
 }
 
-fn refused(refusal: u32) -> Said {
-    Said {
-        given: 0,
-        refusal: refusal as u64,
-    }
-}
-
-// The Length, where the signature is the one that was expected.
-fn length_as(t: Table, signature: u32) -> usize {
-    let kind = t.kind;
-    if kind.signature == signature {
-        t.length
-    } else {
-        0
-    }
-}
-
-fn check(table: &[u8], signature: u32) -> Said {
+fn check(rt: &impl Print, what: &str, table: &[u8]) -> io::Result<()> {
+    print!(rt; "  check, {what}: ")?;
     match Table::check(table) {
-        Checked::Passed(t) => given(length_as(t, signature)),
-        Checked::Refused(reason) => refused(reason.number()),
+        Ok(t) => println!(rt; "{}, {} bytes", Letters(t.kind.signature), t.length),
+        Err(reason) => println!(rt; "{}", Refused(reason.number())),
     }
 }
 
-fn check_laid(signature: u32, length: u32, revision: u8) -> Said {
-    check(&laid(signature, length, revision), signature)
-}
-
-fn laid_refusal(signature: u32, length: u32, revision: u8) -> u64 {
-    let said = check_laid(signature, length, revision);
-    said.refusal
-}
-
-fn entry(table: &[u8], k: usize) -> Said {
-    match Table::entry(table, k) {
-        Entry::At(at) => given(at),
-        Entry::Refused(reason) => refused(reason.number()),
+fn print_place(rt: &impl Print, answer: Result<usize, Reason>) -> io::Result<()> {
+    match answer {
+        Ok(at) => println!(rt; "at {at}"),
+        Err(reason) => println!(rt; "{}", Refused(reason.number())),
     }
 }
 
-fn find_syst(memory: &[u8]) -> Said {
-    match sfi::search::find_syst(memory) {
-        Found::At(at) => given(at),
-        Found::Refused(reason) => refused(reason.number()),
-    }
+fn entry(rt: &impl Print, what: &str, table: &[u8], k: usize) -> io::Result<()> {
+    print!(rt; "  {what}: ")?;
+    print_place(rt, Table::entry(table, k))
 }
 
-// The length of the chosen part, which comes from a call of its own, by whose it is; or the refusal.
-#[derive(Drop)]
-struct Choice {
-    board: u64,
-    built_in: u64,
-    refusal: u64,
+fn find_syst(rt: &impl Print, what: &str, memory: &[u8]) -> io::Result<()> {
+    print!(rt; "  find SYST, {what}: ")?;
+    print_place(rt, sfi::search::find_syst(memory))
 }
 
-fn chosen(board: u64, built_in: u64, refusal: u64) -> Choice {
-    Choice {
-        board,
-        built_in,
-        refusal,
-    }
-}
-
-fn choose<'a>(signature: u32, board: &'a [u8], built_in: &'a [u8]) -> Choice {
+// The length of the chosen part, which comes from a call of its own, by whose it is.
+fn print_chosen(rt: &impl Print, signature: u32, board: &[u8], built_in: &[u8]) -> io::Result<()> {
     let part = sfi::choice::part(signature, board, built_in);
-    let length = part.len() as u64;
     match sfi::choice::choose(signature, board, built_in) {
-        Chosen::Board => chosen(length, 0, 0),
-        Chosen::BuiltIn => chosen(0, length, 0),
-        Chosen::Refused(reason) => chosen(0, 0, reason.number() as u64),
+        Ok(Source::Board) => println!(rt; "board, {} bytes", part.len()),
+        Ok(Source::BuiltIn) => println!(rt; "built-in, {} bytes", part.len()),
+        Err(reason) => println!(rt; "{}", Refused(reason.number())),
     }
 }
 
-fn run_checks(rt: &impl Print, cpus: &[u8]) {
+fn choose_cpus(rt: &impl Print, what: &str, board: &[u8], built_in: &[u8]) -> io::Result<()> {
+    print!(rt; "  choose CPUS, {what}: ")?;
+    print_chosen(rt, Kind::CPUS, board, built_in)
+}
+
+fn run_checks(rt: &impl Print, cpus: &[u8]) -> io::Result<()> {
     let unsealed = unsealed(Kind::CPUS, 28, 1);
-    let missing = checksum(&unsealed);
-    let sum = check(&unsealed, Kind::CPUS);
-    let right = check(cpus, Kind::CPUS);
-    let cut = check(le::head(cpus, 27), Kind::CPUS);
-    let other = laid_refusal(NO_KIND, 28, 1);
-    let odd = laid_refusal(Kind::CPUS, 27, 1);
-    let padded = laid_refusal(Kind::MMAP, 64, 1);
-    let two = laid_refusal(Kind::WAKE, 40, 2);
-    let wake = check_laid(Kind::WAKE, 32, 2);
-    let said = [
-        missing as u64,
-        right.given,
-        cut.refusal,
-        other,
-        odd,
-        sum.refusal,
-        padded,
-        two,
-        wake.given,
-    ];
-    report::pattern(
-        rt,
-        b"\n  the checksum of CPUS with Length 28, Revision 1, the rest 0: 0x$\n  check, CPUS of 28 bytes: CPUS, % bytes\n  check, its first 27 bytes: refused with %\n  check, another signature: refused with %\n  check, Length 27: refused with %\n  check, Checksum 0: refused with %\n  check, MMAP with an entry of 40 bytes: refused with %\n  check, WAKE of 40 bytes: refused with %\n  check, WAKE of 32 bytes: WAKE, % bytes",
-        &said,
-    );
+    let padded = laid(Kind::MMAP, 64, 1);
+    println!(rt;
+        "  the checksum of CPUS with Length 28, Revision 1, the rest 0: 0x{:02X}",
+        checksum(&unsealed)
+    )?;
+    check(rt, "CPUS of 28 bytes", cpus)?;
+    check(rt, "its first 27 bytes", le::head(cpus, 27))?;
+    check(rt, "another signature", &laid(NO_KIND, 28, 1))?;
+    check(rt, "Length 27", &laid(Kind::CPUS, 27, 1))?;
+    check(rt, "Checksum 0", &unsealed)?;
+    check(rt, "MMAP with an entry of 40 bytes", &padded)?;
+    check(rt, "WAKE of 40 bytes", &laid(Kind::WAKE, 40, 2))?;
+    check(rt, "WAKE of 32 bytes", &laid(Kind::WAKE, 32, 2))
 }
 
 // Revisions are read from the listed one on: 1, and 2 for MTMR and WAKE. A newer table has entries of the listed size.
-fn run_revisions(rt: &impl Print) {
-    let freq_1 = check_laid(Kind::FREQ, 36, 1);
-    let freq_2 = check_laid(Kind::FREQ, 36, 2);
-    let freq_255 = check_laid(Kind::FREQ, 36, 255);
-    let mtmr_3 = check_laid(Kind::MTMR, 40, 3);
-    let wake_3 = check_laid(Kind::WAKE, 32, 3);
-    let said = [
-        laid_refusal(Kind::FREQ, 36, 0),
-        freq_1.given,
-        freq_2.given,
-        freq_255.given,
-        laid_refusal(Kind::FREQ, 40, 2),
-        laid_refusal(Kind::MTMR, 40, 1),
-        mtmr_3.given,
-        laid_refusal(Kind::WAKE, 32, 1),
-        wake_3.given,
-    ];
-    report::pattern(
-        rt,
-        b"\n  check, FREQ of Revision 0: refused with %\n  check, FREQ of Revision 1: FREQ, % bytes\n  check, FREQ of Revision 2: FREQ, % bytes\n  check, FREQ of Revision 255: FREQ, % bytes\n  check, FREQ of Revision 2 with an entry of 16 bytes: refused with %\n  check, MTMR of Revision 1: refused with %\n  check, MTMR of Revision 3: MTMR, % bytes\n  check, WAKE of Revision 1: refused with %\n  check, WAKE of Revision 3: WAKE, % bytes",
-        &said,
-    );
+fn run_revisions(rt: &impl Print) -> io::Result<()> {
+    check(rt, "FREQ of Revision 0", &laid(Kind::FREQ, 36, 0))?;
+    check(rt, "FREQ of Revision 1", &laid(Kind::FREQ, 36, 1))?;
+    check(rt, "FREQ of Revision 2", &laid(Kind::FREQ, 36, 2))?;
+    check(rt, "FREQ of Revision 255", &laid(Kind::FREQ, 36, 255))?;
+    let what = "FREQ of Revision 2 with an entry of 16 bytes";
+    check(rt, what, &laid(Kind::FREQ, 40, 2))?;
+    check(rt, "MTMR of Revision 1", &laid(Kind::MTMR, 40, 1))?;
+    check(rt, "MTMR of Revision 3", &laid(Kind::MTMR, 40, 3))?;
+    check(rt, "WAKE of Revision 1", &laid(Kind::WAKE, 32, 1))?;
+    check(rt, "WAKE of Revision 3", &laid(Kind::WAKE, 32, 3))
 }
 
-fn run_entries(rt: &impl Print, cpus: &[u8]) {
-    let first = entry(cpus, 0);
-    let second = entry(cpus, 1);
-    let mapped = entry(&laid(Kind::MMAP, 96, 1), 1);
-    report::pattern(
-        rt,
-        b"\n  entry 0: at %\n  entry 1: refused with %\n  entry 1, MMAP of 96 bytes: at %",
-        &[first.given, second.refusal, mapped.given],
-    );
+fn run_entries(rt: &impl Print, cpus: &[u8]) -> io::Result<()> {
+    entry(rt, "entry 0", cpus, 0)?;
+    entry(rt, "entry 1", cpus, 1)?;
+    entry(rt, "entry 1, MMAP of 96 bytes", &laid(Kind::MMAP, 96, 1), 1)
 }
 
-// A place past the memory's end changes nothing.
-fn put(table: &[u8], at: usize, memory: &mut [u8]) {
-    if at < memory.len() {
-        le::copy(table, &mut memory[at..]);
+// The search in memory of zeros, but for such a SYST at each of these places.
+fn find_laid(
+    rt: &impl Print,
+    what: &str,
+    length: u32,
+    revision: u8,
+    places: &[usize],
+) -> io::Result<()> {
+    let table = laid(Kind::SYST, length, revision);
+    let mut memory = [0; MEMORY_SIZE];
+    for at in places {
+        if let Some(place) = memory.get_mut(*at..) {
+            le::copy(&table, place);
+        }
     }
+    find_syst(rt, what, &memory)
 }
 
-// The search, with a SYST of that Length and Revision at a place.
-fn find_with(length: u32, revision: u8, at: usize, memory: &mut [u8]) -> Said {
-    put(&laid(Kind::SYST, length, revision), at, memory);
-    find_syst(memory)
+// A SYST that ends with its page, also with a second one behind it, one that runs past it, and others of several revisions.
+fn run_search(rt: &impl Print) -> io::Result<()> {
+    find_laid(rt, "at 4064 with Length 32", 32, 1, &[SYST_AT])?;
+    find_laid(rt, "at 4064 and at 8192", 32, 1, &[SYST_AT, SECOND_AT])?;
+    find_laid(rt, "at 4064 with Length 40", 40, 1, &[SYST_AT])?;
+    find_laid(rt, "at 4064 of Revision 0", 32, 0, &[SYST_AT])?;
+    find_laid(rt, "at 4064 of Revision 2", 32, 2, &[SYST_AT])?;
+    find_syst(rt, "131071 bytes", &[0; 131071])
 }
 
-// A SYST that runs past its page, one that ends with it, of several revisions, and a second one behind that.
-fn search(rt: &impl Print, memory: &mut [u8]) {
-    let short = find_syst(le::head(memory, 131071));
-    let past = find_with(40, 1, SYST_AT, memory);
-    let older = find_with(32, 0, SYST_AT, memory);
-    let newer = find_with(32, 2, SYST_AT, memory);
-    let one = find_with(32, 1, SYST_AT, memory);
-    let two = find_with(32, 1, SECOND_AT, memory);
-    report::pattern(
-        rt,
-        b"\n  find SYST, at 4064 with Length 32: at %\n  find SYST, at 4064 and at 8192: at %\n  find SYST, at 4064 with Length 40: refused with %\n  find SYST, at 4064 of Revision 0: refused with %\n  find SYST, at 4064 of Revision 2: at %\n  find SYST, 131071 bytes: refused with %",
-        &[
-            one.given,
-            two.given,
-            past.refusal,
-            older.refusal,
-            newer.given,
-            short.refusal,
-        ],
-    );
-}
-
-fn run_choice(rt: &impl Print, cpus: &[u8]) {
+fn run_choice(rt: &impl Print, cpus: &[u8]) -> io::Result<()> {
     let wrong = le::head(cpus, 27);
-    let board = choose(Kind::CPUS, cpus, wrong);
-    let both = choose(Kind::CPUS, &laid(Kind::CPUS, 32, 1), cpus);
-    let newer = choose(Kind::CPUS, &laid(Kind::CPUS, 32, 2), cpus);
-    let older = choose(Kind::CPUS, &laid(Kind::CPUS, 32, 0), cpus);
-    let built_in = choose(Kind::CPUS, wrong, cpus);
-    let neither = choose(Kind::CPUS, wrong, wrong);
-    let unknown = choose(NO_KIND, cpus, cpus);
-    let said = [
-        board.board,
-        both.board,
-        newer.board,
-        older.built_in,
-        built_in.built_in,
-        neither.refusal,
-        unknown.refusal,
-    ];
-    report::pattern(
+    let longer = laid(Kind::CPUS, 32, 1);
+    let newer = laid(Kind::CPUS, 32, 2);
+    let older = laid(Kind::CPUS, 32, 0);
+    choose_cpus(rt, "the board's passes", cpus, wrong)?;
+    choose_cpus(
         rt,
-        b"\n  choose CPUS, the board's passes: board, % bytes\n  choose CPUS, both pass, the built-in one with 28 bytes: board, % bytes\n  choose CPUS, the board's is of Revision 2: board, % bytes\n  choose CPUS, the board's is of Revision 0: built-in, % bytes\n  choose CPUS, the board's fails: built-in, % bytes\n  choose CPUS, both fail: refused with %\n  choose, another signature: refused with %",
-        &said,
-    );
+        "both pass, the built-in one with 28 bytes",
+        &longer,
+        cpus,
+    )?;
+    choose_cpus(rt, "the board's is of Revision 2", &newer, cpus)?;
+    choose_cpus(rt, "the board's is of Revision 0", &older, cpus)?;
+    choose_cpus(rt, "the board's fails", wrong, cpus)?;
+    choose_cpus(rt, "both fail", wrong, wrong)?;
+    print!(rt; "  choose, another signature: ")?;
+    print_chosen(rt, NO_KIND, cpus, cpus)
 }
 
-// Apart from where it is lent: there the prover would count its bytes.
-fn memory() -> [u8; sfi::search::MEMORY_SIZE] {
-    [0u8; sfi::search::MEMORY_SIZE]
-}
-
-fn run_search(rt: &impl Print) {
-    let mut memory = memory();
-    search(rt, &mut memory);
-}
-
-pub fn run(rt: &impl Print) {
-    report::text(rt, b"\nSFI tables");
+fn run_all(rt: &impl Print) -> io::Result<()> {
+    println!(rt; "SFI tables")?;
     let table = laid(Kind::CPUS, 28, 1);
     let cpus = le::head(&table, 28);
-    run_checks(rt, cpus);
-    run_revisions(rt);
-    run_entries(rt, cpus);
-    run_search(rt);
-    run_choice(rt, cpus);
+    run_checks(rt, cpus)?;
+    run_revisions(rt)?;
+    run_entries(rt, cpus)?;
+    run_search(rt)?;
+    run_choice(rt, cpus)
+}
+
+// A write that fails is passed over, and the next is tried.
+pub fn run(rt: &impl Print) {
+    let _ = run_all(&Lossy(rt));
 }

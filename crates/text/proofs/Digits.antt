@@ -2,10 +2,10 @@
 --     one_digit    of a number below ten there is one
 --     last_digit   of any other, the digits of its tenth and one more
 --     digits_most  how many there are
---     spelt        a digit more is spelt, in front of those that stand there already
---     all_spelt    the last one, which is the first digit
+--     all_low, spelt   they are spelt one by one, the last one first
+--     counted      how many there are, by the power of ten that a number reaches
 -- Assumes nothing.
-use Prim.Native.Nat.{ℕ, zero, suc, ◌+◌, ◌-◌, ◌/◌, ◌%◌, ◌≤◌, ◌<◌, ◌^◌}
+use Prim.Native.Nat.{ℕ, zero, suc, max, ◌+◌, ◌-◌, ◌*◌, ◌/◌, ◌%◌, ◌≤◌, ◌<◌, ◌^◌}
 use mathlib.Core.Bool.{Bool, true, false}
 use mathlib.Core.Path.{◌≡◌, refl, sym, ap, ◌∙◌}
 use mathlib.Core.List.{List, [], ◌∷◌, ◌++◌, append_assoc}
@@ -13,8 +13,8 @@ use borrow.Author.Tests.{lt-ltb, le-ltb, ltb-true, ltb-false}
 use native.Mathlib.Numerals.{add-one}
 use native.Mathlib.Omega.{arith}
 use lib.Dec.{ltb}
-use lib.ListN.{length, take, drop, set, length-append}
-use lib.Seq.{set_split, drop_at, length-take-le}
+use lib.ListN.{length, drop, set, length-append}
+use Rattle.std.proofs.lemmas.List.{drop-set}
 use Rattle.text.specs.Decimal.{digit, digits_within, decimal}
 use Rattle.text.specs.Statements.{DigitsMost}
 
@@ -69,9 +69,6 @@ length_one n h = ap length (one_digit n h)
 pub length_more : (n : ℕ) → 10 ≤ n → length (decimal n) ≡ length (decimal (n / 10)) + 1
 length_more n h = ap length (last_digit n h) ∙ length-append (decimal (n / 10)) (digit (n % 10) ∷ [])
 
-pub some_digit : (n : ℕ) → 1 ≤ length (decimal n)
-some_digit = by_tenths (λ n. 1 ≤ length (decimal n)) (λ n small. omega (arith, length_one n small)) (λ n large tenth. omega (arith, length_more n large))
-
 abbrev Most : ℕ → Type 0
 Most n = (k : ℕ) → n < 10 ^ k → 1 ≤ k → length (decimal n) ≤ k
 
@@ -83,30 +80,50 @@ most_more n large tenth (suc (suc k)) h p = omega (arith, length_more n large, t
 pub digits_most : DigitsMost
 digits_most = by_tenths Most (λ n small k h p. omega (arith, length_one n small)) most_more
 
--- what stands from a place on after a store there
-at_set : (l : List ℕ) (i v : ℕ) → i < length l → drop i (set l i v) ≡ v ∷ drop (i + 1) l
-at_set l i v h = rw (set_split l i v h, add-one i) (drop_at (take i l) (v ∷ drop (suc i) l) i (length-take-le i l (omega arith)))
+-- so many digits of a number, the last ones, with zeros in front where it has fewer
+unfoldable pub low : ℕ → ℕ → List ℕ
+low zero n = []
+low (suc k) n = low k (n / 10) ++ (digit (n % 10) ∷ [])
 
--- a digit in front of those that stand there, where so many are still to come
+-- of as many as it has, they are its digits
+pub all_low : (n : ℕ) → decimal n ≡ low (length (decimal n)) n
+unfolding low
+all_low = by_tenths (λ n. decimal n ≡ low (length (decimal n)) n) one more
+  where
+    one : (n : ℕ) → n < 10 → decimal n ≡ low (length (decimal n)) n
+    one n small = let same : n % 10 ≡ n = omega arith in rw (length_one n small, one_digit n small, same) refl
+
+    more : (n : ℕ) → 10 ≤ n → decimal (n / 10) ≡ low (length (decimal (n / 10))) (n / 10) → decimal n ≡ low (length (decimal n)) n
+    more n large tenth = rw (length_more n large, add-one (length (decimal (n / 10))), ← tenth) (last_digit n large)
+
+-- one more of them is spelt, in front of those that stand there already
 pub spelt : (rest at : ℕ) (out all : List ℕ)
-    → 10 ≤ rest
-    → at < length out
-    → at + 1 ≡ length (decimal rest)
-    → all ≡ decimal rest ++ drop (at + 1) out
-    → (at - 1 + 1 ≡ length (decimal (rest / 10))) × (all ≡ decimal (rest / 10) ++ drop (at - 1 + 1) (set out at (digit (rest % 10))))
-spelt rest at out all large inside left e =
-    let more = length_more rest large in
-    let first = some_digit (rest / 10) in
-    let place : at - 1 + 1 ≡ at = omega arith in
-    (omega arith, rw (place, e, last_digit rest large, at_set out at (digit (rest % 10)) inside) (append_assoc (decimal (rest / 10)) (digit (rest % 10) ∷ []) (drop (at + 1) out)))
+    → 0 < at
+    → at ≤ length out
+    → all ≡ low at rest ++ drop at out
+    → all ≡ low (at - 1) (rest / 10) ++ drop (at - 1) (set out (at - 1) (digit (rest % 10)))
+unfolding low
+spelt rest zero out all some inside e = absurd (omega arith)
+spelt rest (suc k) out all some inside e =
+    let before : suc k - 1 ≡ k = omega arith in
+    let stored : digit (rest % 10) ∷ drop (suc k) out ≡ drop k (set out k (digit (rest % 10))) =
+    sym (drop-set out k (digit (rest % 10)) (omega arith) ∙ ap (λ (n : ℕ). digit (rest % 10) ∷ drop n out) (add-one k)) in
+    rw before (e ∙ append_assoc (low k (rest / 10)) (digit (rest % 10) ∷ []) (drop (suc k) out) ∙ ap (λ (l : List ℕ). low k (rest / 10) ++ l) stored)
 
--- the first digit
-pub all_spelt : (rest at : ℕ) (out all : List ℕ)
-    → rest < 10
-    → at < length out
-    → at + 1 ≡ length (decimal rest)
-    → all ≡ decimal rest ++ drop (at + 1) out
-    → set out at (digit rest) ≡ all
-all_spelt rest at out all small inside left e =
-    let first : at ≡ 0 = omega (arith, length_one rest small) in
-    sym (rw (e, one_digit rest small, first, sym (at_set out 0 (digit rest) (omega arith))))
+-- how many digits a number has whose power of ten is known
+abbrev Counted : ℕ → Type 0
+Counted n = (k : ℕ) → 10 ^ k ≤ n → n < 10 * 10 ^ k → length (decimal n) ≡ k + 1
+
+counted_one : (n : ℕ) → n < 10 → Counted n
+counted_one n small zero from below = length_one n small
+counted_one n small (suc k) from below = absurd (omega arith)
+
+counted_more : (n : ℕ) → 10 ≤ n → Counted (n / 10) → Counted n
+counted_more n large tenth zero from below = absurd (omega arith)
+counted_more n large tenth (suc k) from below = omega (arith, length_more n large, tenth k (omega arith) (omega arith))
+
+-- 0 has as many as 1
+pub counted : (n m k : ℕ) → m ≡ max n 1 → 10 ^ k ≤ m → m < 10 * 10 ^ k → length (decimal n) ≡ k + 1
+counted zero m zero is from below = length_one 0 (omega arith)
+counted zero m (suc k) is from below = absurd (omega arith)
+counted (suc n) m k is from below = by_tenths Counted counted_one counted_more (suc n) k (omega arith) (omega arith)

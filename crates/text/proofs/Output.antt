@@ -1,44 +1,40 @@
 -- The laws of text that is put into an output.
---     room_left   whether it fits, by the room that is left
 --     not_put     text that does not fit
 --     is_put      text that does
 --     take_laid, drop_laid   what the output holds before and behind its end
 --     lies        text for which there is room
 --     lies_behind more behind it: it is both joined that lies there
+--     adds, room_left, adds_both   the same of a writer
 -- Assumes nothing.
-use Prim.Native.Nat.{ℕ, ◌+◌, ◌-◌, ◌≤◌}
-use mathlib.Core.Bool.{Bool, true, false}
+use Prim.Native.Nat.{ℕ, ◌+◌, ◌≤◌}
+use mathlib.Core.Bool.{true, false}
 use mathlib.Core.Path.{◌≡◌, refl, sym, ap, ap₂, ◌∙◌}
 use mathlib.Core.List.{List, ◌++◌, append_assoc}
-use borrow.Author.Tests.{le-leb, lt-leb, leb-true, leb-false}
+use borrow.Author.Tests.{le-leb}
 use native.Mathlib.Omega.{arith}
 use lib.Dec.{leb}
 use lib.ListN.{length, take, drop, length-append, length-drop}
 use lib.Seq.{take_at, drop_at, drop-drop, length-take-le}
-use Rattle.text.specs.Output.{laid, fits, behind, put, Lies}
+use Rattle.text.specs.Output.{laid, behind, put, Lies, Puts, HasRoom, Adds}
+use Rattle.text.specs.declared.Writer.{Writer}
 
-pub room_left : (n at room : ℕ) → at ≤ room → leb n (room - at) ≡ leb (at + n) room
-room_left n at room h = go (leb n (room - at)) refl
-  where
-    go : (t : Bool) → leb n (room - at) ≡ t → leb n (room - at) ≡ leb (at + n) room
-    go true e = e ∙ sym (le-leb (at + n) room (omega (arith, leb-true n (room - at) e)))
-    go false e = e ∙ sym (lt-leb (at + n) room (omega (arith, leb-false n (room - at) e)))
+-- where the text's length is n
+module _ (at : ℕ) (text out : List ℕ) (n : ℕ) (is : n ≡ length text) where
+  pub not_put : leb (at + n) (length out) ≡ false → (at ≡ behind at text out) × (out ≡ put at text out)
+  unfolding behind put
+  not_put e = rw (← is, e) (refl, refl)
+
+  pub is_put : leb (at + n) (length out) ≡ true → (at + n ≡ behind at text out) × (laid at text out ≡ put at text out)
+  unfolding behind put
+  is_put e = rw (← is, e) (refl, refl)
 
 module _ (at : ℕ) (text out : List ℕ) where
-  pub not_put : fits at text out ≡ false → (at ≡ behind at text out) × (out ≡ put at text out)
-  unfolding behind put
-  not_put e = rw e (refl, refl)
-
-  pub is_put : fits at text out ≡ true → (at + length text ≡ behind at text out) × (laid at text out ≡ put at text out)
-  unfolding behind put
-  is_put e = rw e (refl, refl)
-
   pub lies : (place : ℕ) (after : List ℕ)
       → at + length text ≤ length out
       → (place ≡ behind at text out) × (after ≡ put at text out)
       → Lies at text out place after
   lies place after room said =
-      let law = is_put (le-leb (at + length text) (length out) room) in
+      let law = is_put at text out (length text) refl (le-leb (at + length text) (length out) room) in
       record { place_is = said.0 ∙ sym law.0; after_is = said.1 ∙ sym law.1 }
 
   length_laid : at + length text ≤ length out → length (laid at text out) ≡ length out
@@ -90,16 +86,28 @@ lies_behind at a b out middle place between after room first second =
 pub lies_length : (at : ℕ) (text out : List ℕ) (place : ℕ) (after : List ℕ) → at + length text ≤ length out → Lies at text out place after → length after ≡ length out
 lies_length at text out place after room l = ap length l.after_is ∙ length_laid at text out room
 
--- and what there was room for behind the text, there still is
-pub lies_room : (at k : ℕ) (text out : List ℕ) (place : ℕ) (after : List ℕ) → at + length text + k ≤ length out → Lies at text out place after → place + k ≤ length after
-lies_room at k text out place after room l = omega (arith, l.place_is, lies_length at text out place after (omega arith) l)
+-- the same of a writer
+pub adds : (n : ℕ) (text : List ℕ) (before after : Writer) → HasRoom n before → length text ≤ n → Puts text before after → Adds text before after
+adds n text before after room short said =
+    record {
+      room = omega (arith, room, short);
+      same_output = said.same_output;
+      lies = lies before.at text before.out.now after.at after.out.now (omega (arith, room, short)) (said.place_is, said.out_is);
+    }
 
--- so more can be put there
-pub lies_then : (at : ℕ) (a b out : List ℕ) (middle place : ℕ) (between after : List ℕ)
-    → at + length a + length b ≤ length out
-    → Lies at a out middle between
-    → (place ≡ behind middle b between) × (after ≡ put middle b between)
-    → Lies at (a ++ b) out place after
-lies_then at a b out middle place between after room first said =
-    let fits : middle + length b ≤ length between = lies_room at (length b) a out middle between room first in
-    lies_behind at a b out middle place between after (omega arith) first (lies middle b between place after fits said)
+module _ (a : List ℕ) (before between : Writer) (first : Adds a before between) where
+  as_long : length between.out.now ≡ length before.out.now
+  as_long = lies_length before.at a before.out.now between.at between.out.now first.room first.lies
+
+  -- there is room for what there was room for behind the text
+  pub room_left : (n m : ℕ) → HasRoom n before → length a + m ≤ n → HasRoom m between
+  room_left n m room fits = omega (arith, room, first.lies.place_is, as_long)
+
+  -- and of two texts both are put, joined
+  pub adds_both : (b : List ℕ) (after : Writer) → Adds b between after → Adds (a ++ b) before after
+  adds_both b after second =
+      record {
+        room = omega (arith, second.room, first.lies.place_is, as_long, length-append a b);
+        same_output = second.same_output ∙ first.same_output;
+        lies = lies_behind before.at a b before.out.now between.at after.at between.out.now after.out.now first.room first.lies second.lies;
+      }

@@ -1,6 +1,7 @@
 -- Text that is put into an output from a place on: all of it, or nothing where it does not fit.
 -- Assumes nothing.
-use Rattle.std.specs.Prelude.{ℕ, ◌+◌, Bool, cond, ◌≡◌, List, ◌++◌, leb, length, take, drop}
+use Rattle.std.specs.Prelude.{ℕ, ◌+◌, Bool, cond, ◌≡◌, List, ◌++◌, ◌≤◌, leb, length, take, drop}
+use Rattle.text.specs.declared.Writer.{Writer}
 
 -- the output with the text from that place on; no other byte changes
 abbrev pub laid : ℕ → List ℕ → List ℕ → List ℕ
@@ -21,3 +22,19 @@ put at text out = cond (fits at text out) (laid at text out) out
 pub record Lies (at : ℕ) (text before : List ℕ) (place : ℕ) (after : List ℕ) : Type 0 where
   pub place_is : place ≡ at + length text
   pub after_is : after ≡ laid at text before
+
+-- what a writer does with text: it puts all of it, or nothing, into the same output
+pub record Puts (text : List ℕ) (before after : Writer) : Type 0 where
+  pub same_output : after.out.ghost_name ≡ before.out.ghost_name
+  pub place_is : after.at ≡ behind before.at text before.out.now
+  pub out_is : after.out.now ≡ put before.at text before.out.now
+
+-- there is room for so many bytes from a writer's place on
+abbrev pub HasRoom : ℕ → Writer → Type 0
+HasRoom n w = w.at + n ≤ length w.out.now
+
+-- text for which there was room is put: it lies in the same output
+pub record Adds (text : List ℕ) (before after : Writer) : Type 0 where
+  pub room : HasRoom (length text) before
+  pub same_output : after.out.ghost_name ≡ before.out.ghost_name
+  pub lies : Lies before.at text before.out.now after.at after.out.now

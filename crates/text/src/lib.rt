@@ -1,43 +1,53 @@
-// Text in ASCII, put into an output that the caller lends, from a place on. Each function answers the place behind
-// what it put; where that does not fit whole, it puts nothing and answers the place it was given.
+// Text in ASCII, put into an output that the caller lends, from a place on.
 #![tactic(auto)]
 
 ghost use Rattle.std.specs.Prelude.{◌≡◌, ◌+◌, leb, length};
 ghost use Rattle.text.specs.Decimal.{decimal};
-ghost use Rattle.text.specs.Output as Output;
+ghost use Rattle.text.specs.Output.{Puts};
 
-// Whether n bytes fit from a place on.
-fn has_room(n: usize, at: usize, room: usize) -> bool
-    ensures { result ≡ leb (at + n) room }
-{
-    if room < at {
-        return false;
-    }
-    n <= room - at
+// An output, and the place in it from which the next text is put. What is put moves the place behind it; text that does
+// not fit whole is not put, and the place stays.
+#[derive(Drop)]
+pub struct Writer<'a> {
+    pub out: &'a mut [u8],
+    pub at: usize,
 }
 
-// Puts bytes as they are.
-pub fn put(bytes: &[u8], at: usize, out: &mut [u8]) -> usize
-    ensures value { result ≡ Output.behind at bytes.now out.old }
-    ensures out_after { out.new ≡ Output.put at bytes.now out.old }
-{
-    if !has_room(bytes.len(), at, out.len()) {
-        return at;
+impl Writer<'_> {
+    // Whether n bytes fit.
+    fn has_room(&self, n: usize) -> bool
+        ensures { result ≡ leb (self.now.at + n) (length self.now.out.now) }
+    {
+        self.at <= self.out.len() && n <= self.out.len() - self.at
     }
-    le::copy(bytes, &mut out[at..]);
-    at + bytes.len()
+
+    // Puts bytes as they are.
+    pub fn put(&mut self, bytes: &[u8])
+        ensures { Puts bytes.now self.old self.new }
+    {
+        if self.has_room(bytes.len()) {
+            le::copy(bytes, &mut self.out[self.at..]);
+            self.at += bytes.len();
+        }
+    }
+
+    // Puts a number in decimal.
+    pub fn put_decimal(&mut self, n: u64)
+        ensures { Puts (decimal n) self.old self.new }
+    {
+        let count = count_digits(n);
+        if self.has_room(count) {
+            let end = self.at + count;
+            spell(n, &mut self.out[self.at..end]);
+            self.at = end;
+        }
+    }
 }
 
 fn count_digits(n: u64) -> usize
     ensures { result ≡ length (decimal n) }
 {
-    let mut count = 1;
-    let mut rest = n;
-    while 10 <= rest {
-        rest /= 10;
-        count += 1;
-    }
-    count
+    n.max(1).ilog10() as usize + 1
 }
 
 // Writes the digits of a number over all of a slice that has one byte for each, the last digit first.
@@ -45,26 +55,9 @@ fn spell(n: u64, out: &mut [u8])
     requires { length out.old ≡ length (decimal n) }
     ensures { out.new ≡ decimal n }
 {
-    let mut at = out.len() - 1;
     let mut rest = n;
-    while 10 <= rest {
-        out[at] = 48 + (rest % 10) as u8;
+    for at in (0..out.len()).rev() {
+        out[at] = b'0' + (rest % 10) as u8;
         rest /= 10;
-        at -= 1;
     }
-    out[at] = 48 + rest as u8;
-}
-
-// Puts a number in decimal.
-pub fn put_decimal(n: u64, at: usize, out: &mut [u8]) -> usize
-    ensures value { result ≡ Output.behind at (decimal n) out.old }
-    ensures out_after { out.new ≡ Output.put at (decimal n) out.old }
-{
-    let count = count_digits(n);
-    if !has_room(count, at, out.len()) {
-        return at;
-    }
-    let end = at + count;
-    spell(n, &mut out[at..end]);
-    end
 }

@@ -1,5 +1,6 @@
 -- A table that is laid out by the rules passes its checks, and is found by its name.
 -- Assumes nothing.
+use Rattle.std.specs.Prelude.{Ok}
 use Prim.Native.Nat.{ℕ, suc, ◌+◌, ◌*◌, ◌-◌, ◌^◌, ◌≤◌, ◌<◌}
 use mathlib.Core.Bool.{false, not}
 use mathlib.Core.Path.{◌≡◌, refl, sym, ap, ap₂, ◌∙◌}
@@ -20,8 +21,6 @@ use Rattle.ubios.specs.Checks.{table_at, bad_size, wrong_version, judged, checke
 use Rattle.ubios.specs.Lookup.{no_name, leads_on, leads, body_of}
 use Rattle.ubios.specs.Statements.{head_of, table_of, Laid, LaidPasses, EndsName, LaidName, slot_bytes, Addresses, root_body, RootLaid, LaidRoot, TableIn, LaidLeads, LaidFound}
 use Rattle.ubios.specs.declared.Table.{Table}
-use Rattle.ubios.specs.declared.Checked.TheVariants.{Passed}
-use Rattle.ubios.specs.declared.lookup.Found.TheVariants.{Only}
 use Rattle.ubios.proofs.Answers.{passes_only, good_size, judged_tested, checked_tested, count_tested, root_tested, root_after_lem}
 use Rattle.ubios.proofs.Theorems.{only_found}
 use Rattle.ubios.proofs.Names.{ends, joined, sought, whole as whole-name, root_name_good}
@@ -102,10 +101,10 @@ module _ (header : ℕ) (front field reserved : List ℕ) (remaining : ℕ) (bod
       let left = laid.left in
       rw (whole, total_read, remaining_read) (good_size header _ total remaining (record { holds = omega arith; most = laid.most; inside = omega arith; left = omega arith }))
 
-  judged_here : judged header (length front) table ≡ Passed (record { at = length front; used = table_header + length body })
+  judged_here : judged header (length front) table ≡ Ok (record { at = length front; used = table_header + length body })
   judged_here =
       judged_tested header (length front) table good (ap (λ (s : List ℕ). wrong_version s) here ∙ version_is field total reserved remaining tail laid.named laid.three) (ap (λ (n : ℕ). not (eqb n 0)) sums)
-      ∙ ap (λ (n : ℕ). Passed (record { at = length front; used = n })) used_is
+      ∙ ap (λ (n : ℕ). Ok (record { at = length front; used = n })) used_is
 
   region_length : length (front ++ table) ≡ length front + (table_header + length body + length rest)
   region_length = length-append front table ∙ ap (λ (n : ℕ). length front + n) whole
@@ -243,7 +242,7 @@ laid_root front junk reserved remaining six slots more rest base six_bytes few f
 
 -- a table in a memory with others: it passes, and its slot leads there
 module _ (region : List ℕ) (base address : ℕ) (own body : List ℕ) (t : TableIn region base address own body) where
-  in_passes : checked table_header region base address ≡ Passed (record { at = address - base; used = table_header + length body })
+  in_passes : checked table_header region base address ≡ Ok (record { at = address - base; used = table_header + length body })
   in_passes =
       let place : base + length t.front - base ≡ length t.front = omega arith in
       rw (t.here, t.memory, place) (laid_passes table_header t.front (own ++ t.end) t.reserved t.remaining body t.rest base (omega arith) t.laid)
@@ -278,4 +277,4 @@ laid_found region base root address name body before after r t ne hb ha =
       none_after = ha;
       is = ap (body_of (length before)) passing.is;
     })
-    ∙ ap (λ (n : ℕ). Only (record { slot = length before; at = address - base + table_header; length = n })) behind_header
+    ∙ ap (λ (n : ℕ). Ok (record { slot = length before; at = address - base + table_header; length = n })) behind_header

@@ -2,5 +2,6 @@
 pub mod Answers
 pub mod Names
 pub mod Walking
+mod Ranges
 pub mod Theorems
 pub mod Laid

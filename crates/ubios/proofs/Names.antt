@@ -4,15 +4,17 @@ use Prim.Native.Nat.{ℕ, suc, ◌+◌, ◌≤◌, ◌<◌}
 use mathlib.Core.Bool.{Bool, true, false, cond, ◌||◌}
 use mathlib.Core.Path.{◌≡◌, refl, ap, ap₂, sym, ◌∙◌}
 use mathlib.Core.List.{List, [], ◌∷◌, ◌++◌, append-nil}
-use borrow.Author.Tests.{eq-eqb, ne_eqb, ltb-false, eqb-true, eqb-false}
+use borrow.Author.Tests.{lt-ltb, eq-eqb, ne_eqb, ltb-false, eqb-true, eqb-false}
 use native.Mathlib.Nat.{add-zero}
-use native.Mathlib.Numerals.{add-one}
 use native.Mathlib.Omega.{arith}
-use lib.Dec.{eqb}
-use lib.ListN.{length, take, drop, get_or, drop_of_length-le, length-append, take-append-drop}
-use lib.Seq.{drop-cons, take_all, take-take, get_or-take, get_or-drop}
+use lib.Dec.{eqb, ltb}
+use lib.ListN.{length, take, drop, get_or, length-append, take-append-drop}
+use lib.Seq.{take_all, take-take, get_or-take, get_or-drop}
 use Rattle.le.specs.Compare.{same}
-use Rattle.le.proofs.Tests.{apart, never, neither}
+use Rattle.le.proofs.Tests.{agree}
+use Rattle.le.proofs.Words.{byte_at}
+use Rattle.std.specs.List.{list_any}
+use Rattle.std.proofs.lemmas.Bool.{or_parts}
 use Rattle.le.proofs.Comparing.{same_true, equal_same, other_list, other_length}
 use Rattle.ubios.specs.Layout.{name_max, up_to_zero, name_of, root_name}
 use Rattle.ubios.specs.Lookup.{is_empty, is_long, has_zero, no_name, bad_name}
@@ -29,26 +31,6 @@ none : up_to_zero [] ≡ []
 unfolding up_to_zero
 none = refl
 
--- a walk to the first zero: at a zero, past another byte, and at the end
-pub at_zero : (s : List ℕ) (i : ℕ) → i < length s → get_or s i 0 ≡ 0 → length (up_to_zero s) ≡ i + length (up_to_zero (drop i s)) → i ≡ length (up_to_zero s)
-at_zero s i h e so_far =
-    let here : up_to_zero (drop i s) ≡ [] = ap up_to_zero (drop-cons s i 0 h) ∙ ends (get_or s i 0) (drop (suc i) s) e in
-    let nothing : length (up_to_zero (drop i s)) ≡ 0 = ap length here in
-    omega arith
-
-pub past_byte : (s : List ℕ) (i : ℕ) → i < length s → (get_or s i 0 ≡ 0 → ⊥) → length (up_to_zero s) ≡ i + length (up_to_zero (drop i s))
-    → length (up_to_zero s) ≡ i + 1 + length (up_to_zero (drop (i + 1) s))
-past_byte s i h ne so_far =
-    let here : up_to_zero (drop i s) ≡ get_or s i 0 ∷ up_to_zero (drop (suc i) s) = ap up_to_zero (drop-cons s i 0 h) ∙ goes_on (get_or s i 0) (drop (suc i) s) ne in
-    let one_more : length (up_to_zero (drop i s)) ≡ suc (length (up_to_zero (drop (suc i) s))) = ap length here in
-    rw (add-one i) (omega arith)
-
-pub at_end : (s : List ℕ) (i : ℕ) → length s ≤ i → length (up_to_zero s) ≡ i + length (up_to_zero (drop i s)) → i ≡ length (up_to_zero s)
-at_end s i h so_far =
-    let here : up_to_zero (drop i s) ≡ [] = ap up_to_zero (drop_of_length-le s {i = i} h) ∙ none in
-    let nothing : length (up_to_zero (drop i s)) ≡ 0 = ap length here in
-    omega arith
-
 -- what stands before the first zero is the list's start
 pub start : (s : List ℕ) → take (length (up_to_zero s)) s ≡ up_to_zero s
 unfolding up_to_zero
@@ -60,6 +42,18 @@ start (b ∷ s) = go (eqb b 0) (start s)
     go true e = refl
     go false e = ap (λ (l : List ℕ). b ∷ l) e
 
+-- a list has a zero if what stands before the first is not all of it
+pub zero_among : (s : List ℕ) → list_any (λ y. eqb y 0) s ≡ has_zero s
+unfolding up_to_zero
+zero_among [] = refl
+zero_among (b ∷ s) = go (eqb b 0) (zero_among s)
+  where
+    go : (t : Bool) → list_any (λ y. eqb y 0) s ≡ has_zero s
+        → t || list_any (λ y. eqb y 0) s ≡ ltb (length (cond t [] (b ∷ up_to_zero s))) (length (b ∷ s))
+    go true e = sym (lt-ltb 0 (suc (length s)) (omega arith))
+    go false e =
+        e ∙ agree (length (up_to_zero s)) (length s) (suc (length (up_to_zero s))) (suc (length s)) (λ l. omega arith) (λ l. omega arith)
+
 -- 39 by its tests
 pub name_tested : (name : List ℕ) {a b c : Bool} → is_empty name ≡ a → is_long name ≡ b → has_zero name ≡ c → bad_name name ≡ a || (b || c)
 unfolding bad_name no_name
@@ -68,15 +62,15 @@ name_tested name p q r = ap₂ ◌||◌ p (ap₂ ◌||◌ q r)
 -- a name that can be sought is one that a table can have: it fits the field, and has no zero
 pub sought : (name : List ℕ) → bad_name name ≡ false → no_name name ≡ false
 unfolding bad_name
-sought name e = (neither (is_empty name) _ e).1
+sought name e = (or_parts (is_empty name) _ e).1
 
 fits : (name : List ℕ) → no_name name ≡ false → length name ≤ name_max
 unfolding no_name
-fits name e = ltb-false _ _ (neither (is_long name) _ e).0
+fits name e = ltb-false _ _ (or_parts (is_long name) _ e).0
 
 pub whole : (name : List ℕ) → no_name name ≡ false → up_to_zero name ≡ name
 unfolding no_name
-whole name e = sym (start name) ∙ take_all (length (up_to_zero name)) name (ltb-false _ _ (neither (is_long name) _ e).1)
+whole name e = sym (start name) ∙ take_all (length (up_to_zero name)) name (ltb-false _ _ (or_parts (is_long name) _ e).1)
 
 -- what stands before the first zero of two joined lists, of which the first has none
 pub joined : (s t : List ℕ) → up_to_zero s ≡ s → up_to_zero (s ++ t) ≡ s ++ up_to_zero t
@@ -84,7 +78,7 @@ joined [] t e = refl
 joined (b ∷ s) t e = go (eqb b 0) refl (joined s t)
   where
     go : (z : Bool) → eqb b 0 ≡ z → (up_to_zero s ≡ s → up_to_zero (s ++ t) ≡ s ++ up_to_zero t) → up_to_zero (b ∷ (s ++ t)) ≡ b ∷ (s ++ up_to_zero t)
-    go true q later = let x = sym (ends b s (eqb-true b 0 q)) ∙ e in apart (cc)
+    go true q later = let x = sym (ends b s (eqb-true b 0 q)) ∙ e in cc
     go false q later =
         let ne = eqb-false b 0 q in
         let none : up_to_zero s ≡ s = let x = sym (goes_on b s ne) ∙ e in cc in
@@ -109,7 +103,7 @@ module _ (t name : List ℕ) (good : no_name name ≡ false) where
   field_start = take-take (length name) name_max t (fits name good)
 
   pub other_start : same (take (length name) t) name ≡ false → same (name_of t) name ≡ false
-  other_start e = other_list (name_of t) name (λ q. never (sym (equal_same (take (length name) t) name (starts_with q)) ∙ e))
+  other_start e = other_list (name_of t) name (λ q. let z = sym (equal_same (take (length name) t) name (starts_with q)) ∙ e in cc)
     where
       starts_with : name_of t ≡ name → take (length name) t ≡ name
       starts_with q =
@@ -141,3 +135,6 @@ module _ (t name : List ℕ) (good : no_name name ≡ false) where
 pub root_name_good : no_name root_name ≡ false
 unfolding no_name up_to_zero
 root_name_good = refl
+
+-- whether a table has a name, by what it starts with and the byte behind that
+pub ruleset start_tests = (other_start, fills, by_next, byte_at)

@@ -1,5 +1,6 @@
 -- The theorems of `specs/Statements.antt` on the look-up: which slot is found, when none is and when two are, what a gap changes, and where the body lies.
 -- Assumes nothing.
+use Rattle.std.specs.Prelude.{Result, Ok, Err}
 use Prim.Native.Nat.{ℕ, zero, suc, ◌+◌, ◌-◌, ◌≤◌, ◌<◌}
 use mathlib.Core.Bool.{Bool, true, false, cond}
 use mathlib.Core.Path.{◌≡◌, refl, sym, ap, ap₂, subst, ◌∙◌}
@@ -9,17 +10,14 @@ use native.Mathlib.Omega.{arith}
 use lib.Dec.{ltb}
 use lib.ListN.{length, take, drop, length-drop, length-append}
 use lib.Seq.{take-nil, drop-drop}
-use Rattle.le.proofs.Tests.{apart}
 use Rattle.ubios.specs.Layout.{table_header, used_of, slots_of}
 use Rattle.ubios.specs.Checks.{number_of, table_at, root_checked}
 use Rattle.ubios.specs.Lookup.{bad_name, leads, body_of, body_at, hits, answer_of, looked_up, found}
 use Rattle.ubios.specs.Statements.{NoneLeads, Walked, FoundOnly, OnlyFound, FoundNone, NoneFound, FoundTwo, TwoFound, BehindGap, SameTables, moved_on, GapAdded, BodyInside, BodyBytes}
 use Rattle.ubios.specs.declared.Reason.TheVariants.{NoTable, TwoTables}
-use Rattle.ubios.specs.declared.RootChecked.{RootChecked}
-use Rattle.ubios.specs.declared.RootChecked.TheVariants.{Passed as RootPassed, Refused as RootRefused}
+use Rattle.ubios.specs.declared.Root.{Root}
+use Rattle.ubios.specs.declared.Reason.{Reason}
 use Rattle.ubios.specs.declared.lookup.Body.{Body}
-use Rattle.ubios.specs.declared.lookup.Found.{Found}
-use Rattle.ubios.specs.declared.lookup.Found.TheVariants.{Only, Refused}
 use Rattle.ubios.proofs.Answers.{passes_only, root_refusals}
 use Rattle.ubios.proofs.Walking.{at_gap, led, no_slots, passes_over, meets, bad_name_lem, no_root, in_root_lem}
 
@@ -30,7 +28,7 @@ cons_head e = cc
 cons_tail : {b c : Body} {l m : List Body} → b ∷ l ≡ c ∷ m → l ≡ m
 cons_tail e = cc
 
-only_inj : {b c : Body} → Only b ≡ Only c → b ≡ c
+only_inj : {b c : Body} → ◌≡◌ {A = Result Body Reason} (Ok b) (Ok c) → b ≡ c
 only_inj e = cc
 
 -- the hits among slots of which none leads there, among joined slots, and where one leads there
@@ -58,7 +56,7 @@ module _ (region : List ℕ) (base : ℕ) (name : List ℕ) where
   behind k before a after h = joined k before (a ∷ after) ∙ rw (meets region base name (k + length before) a after h)
 
   one_of_all : (before : List ℕ) (a : ℕ) (after : List ℕ) → NoneLeads region base name before → leads region base name a ≡ true → NoneLeads region base name after
-      → looked_up region base name (before ++ (a ∷ after)) ≡ Only (body_at region base (length before) a)
+      → looked_up region base name (before ++ (a ∷ after)) ≡ Ok (body_at region base (length before) a)
   one_of_all before a after hb h ha =
       let start : 0 + length before ≡ length before = omega arith in
       rw (behind 0 before a after h, none_hit 0 before hb, none_hit (suc (0 + length before)) after ha, start)
@@ -69,7 +67,7 @@ module _ (region : List ℕ) (base : ℕ) (name : List ℕ) where
   none_lead k (a ∷ slots) e = go (leads region base name a) refl (none_lead (suc k) slots)
     where
       go : (t : Bool) → leads region base name a ≡ t → (hits region base name (suc k) slots ≡ [] → NoneLeads region base name slots) → NoneLeads region base name (a ∷ slots)
-      go true q later = let z = sym (meets region base name k a slots q) ∙ e in apart (cc)
+      go true q later = let z = sym (meets region base name k a slots q) ∙ e in cc
       go false q later = (q, later (sym (passes_over region base name k a slots q) ∙ e))
 
   -- where among the slots the first hit is
@@ -84,7 +82,7 @@ module _ (region : List ℕ) (base : ℕ) (name : List ℕ) where
     is : b ≡ body_at region base (k + length before) address
 
   place : (k : ℕ) (slots : List ℕ) (b : Body) (more : List Body) → hits region base name k slots ≡ b ∷ more → Place k slots b more
-  place k [] b more e = let z = sym (no_slots region base name k) ∙ e in apart (cc)
+  place k [] b more e = let z = sym (no_slots region base name k) ∙ e in cc
   place k (a ∷ slots) b more e = go (leads region base name a) refl (place (suc k) slots b more)
     where
       go : (t : Bool) → leads region base name a ≡ t → (hits region base name (suc k) slots ≡ b ∷ more → Place (suc k) slots b more) → Place k (a ∷ slots) b more
@@ -123,23 +121,23 @@ abbrev met : List ℕ → ℕ → ℕ → List ℕ → List Body
 met region base root name = hits region base name 0 (slots region base root)
 
 -- no refusal, or 37 or 38
-abbrev OfSlots : Found → Type 0
-OfSlots (Only b) = Unit {0}
-OfSlots (Refused reason) = (37 ≤ number_of reason) × (number_of reason ≤ 38)
+abbrev OfSlots : Result Body Reason → Type 0
+OfSlots (Ok b) = Unit {0}
+OfSlots (Err reason) = (37 ≤ number_of reason) × (number_of reason ≤ 38)
 
 -- such an answer comes of the slots
 module _ (region : List ℕ) (base root : ℕ) (name : List ℕ) where
   by_slots : Walked region base root name → found region base root name ≡ answer_of (met region base root name)
   by_slots w = in_root_lem region base root name w.sought w.root_table w.root_passes
 
-  walked : (f : Found) → OfSlots f → found region base root name ≡ f → Walked region base root name × (answer_of (met region base root name) ≡ f)
+  walked : (f : Result Body Reason) → OfSlots f → found region base root name ≡ f → Walked region base root name × (answer_of (met region base root name) ≡ f)
   walked f of e = by_name (bad_name name) refl
     where
-      by_root : bad_name name ≡ false → (c : RootChecked) → root_checked region base root ≡ c → Walked region base root name × (answer_of (met region base root name) ≡ f)
-      by_root good (RootRefused reason) q =
+      by_root : bad_name name ≡ false → (c : Result Root Reason) → root_checked region base root ≡ c → Walked region base root name × (answer_of (met region base root name) ≡ f)
+      by_root good (Err reason) q =
           let above = subst OfSlots (sym e ∙ no_root region base root name good reason q) of in
           absurd (omega (arith, (root_refusals region base root reason q).1, above.0))
-      by_root good (RootPassed r) q =
+      by_root good (Ok r) q =
           let w : Walked region base root name = record { sought = good; root_table = r; root_passes = q } in
           (w, sym (by_slots w) ∙ e)
 
@@ -152,17 +150,17 @@ only_found region base root name b w one =
     by_slots region base root name w
     ∙ ap (looked_up region base name) one.slots
     ∙ one_of_all region base name one.before one.address one.after one.none_before one.leads_there one.none_after
-    ∙ ap Only (sym one.is)
+    ∙ ap Ok (sym one.is)
 
 -- an answer that is a body comes of one hit
-one_answer : (l : List Body) (b : Body) → answer_of l ≡ Only b → l ≡ b ∷ []
-one_answer [] b e = apart (cc)
+one_answer : (l : List Body) (b : Body) → answer_of l ≡ Ok b → l ≡ b ∷ []
+one_answer [] b e = cc
 one_answer (c ∷ []) b e = ap (λ (x : Body). x ∷ []) (only_inj e)
-one_answer (c ∷ d ∷ l) b e = apart (cc)
+one_answer (c ∷ d ∷ l) b e = cc
 
 pub found_only : FoundOnly
 found_only region base root name b e =
-    let w = walked region base root name (Only b) tt e in
+    let w = walked region base root name (Ok b) tt e in
     let p = place region base name 0 (slots region base root) b [] (one_answer (met region base root name) b w.1) in
     let start : 0 + length p.before ≡ length p.before = omega arith in (
       w.0,
@@ -179,14 +177,14 @@ found_only region base root name b e =
     )
 
 -- 37 comes of no hit
-no_answer : (l : List Body) → answer_of l ≡ Refused NoTable → l ≡ []
+no_answer : (l : List Body) → answer_of l ≡ Err NoTable → l ≡ []
 no_answer [] e = refl
-no_answer (b ∷ []) e = apart (cc)
-no_answer (b ∷ c ∷ l) e = apart (cc)
+no_answer (b ∷ []) e = cc
+no_answer (b ∷ c ∷ l) e = cc
 
 pub found_none : FoundNone
 found_none region base root name e =
-    let w = walked region base root name (Refused NoTable) (omega arith, omega arith) e in
+    let w = walked region base root name (Err NoTable) (omega arith, omega arith) e in
     (w.0, none_lead region base name 0 (slots region base root) (no_answer (met region base root name) w.1))
 
 pub none_found : NoneFound
@@ -200,12 +198,12 @@ record Two (l : List Body) : Type 0 where
   more : List Body
   all : l ≡ first ∷ second ∷ more
 
-two_answer : (l : List Body) → answer_of l ≡ Refused TwoTables → Two l
-two_answer [] e = apart (cc)
-two_answer (b ∷ []) e = apart (cc)
+two_answer : (l : List Body) → answer_of l ≡ Err TwoTables → Two l
+two_answer [] e = cc
+two_answer (b ∷ []) e = cc
 two_answer (b ∷ c ∷ l) e = record { first = b; second = c; more = l; all = refl }
 
-answer_two : (before : List Body) (b : Body) (between : List Body) (c : Body) (after : List Body) → answer_of (before ++ (b ∷ (between ++ (c ∷ after)))) ≡ Refused TwoTables
+answer_two : (before : List Body) (b : Body) (between : List Body) (c : Body) (after : List Body) → answer_of (before ++ (b ∷ (between ++ (c ∷ after)))) ≡ Err TwoTables
 answer_two [] b [] c after = refl
 answer_two [] b (d ∷ between) c after = refl
 answer_two (d ∷ []) b between c after = refl
@@ -213,7 +211,7 @@ answer_two (d ∷ e ∷ before) b between c after = refl
 
 pub found_two : FoundTwo
 found_two region base root name e =
-    let w = walked region base root name (Refused TwoTables) (omega arith, omega arith) e in
+    let w = walked region base root name (Err TwoTables) (omega arith, omega arith) e in
     let two = two_answer (met region base root name) w.1 in
     let p = place region base name 0 (slots region base root) two.first (two.second ∷ two.more) two.all in
     let q = place region base name _ p.after two.second two.more p.others in (
@@ -254,7 +252,7 @@ behind_gap region base root name r before between address after good passed slot
     in_root_lem region base root name good r passed
     ∙ ap (looked_up region base name) (slots ∙ sym (append_assoc before (0 ∷ between) (address ∷ after)))
     ∙ one_of_all region base name front address after none h ha
-    ∙ ap (λ (i : ℕ). Only (body_at region base i address)) (length-append before (0 ∷ between))
+    ∙ ap (λ (i : ℕ). Ok (body_at region base i address)) (length-append before (0 ∷ between))
 
 -- the same tables give the same hits
 same_hits : (region region' : List ℕ) (base : ℕ) (name : List ℕ) (k : ℕ) (slots : List ℕ) → SameTables region region' base name slots

@@ -1,6 +1,10 @@
 -- The laws of the look-up: which slots lead to a passing table of the name, and what a walk over the slots meets.
 -- Assumes nothing.
-use Prim.Native.Nat.{ℕ, zero, suc, ◌+◌, ◌*◌, ◌-◌, ◌≤◌, ◌<◌}
+use Rattle.std.specs.Prelude.{Result, Ok, Err, Option, Some, None}
+use mathlib.Core.Logic.{inl, inr}
+use Rattle.std.proofs.lemmas.Option.{same_Some}
+use Rattle.std.proofs.lemmas.Bool.{cases_lt, and_parts, cond-true}
+use Prim.Native.Nat.{ℕ, zero, suc, ◌+◌, ◌*◌, ◌-◌, ◌/◌, ◌≤◌, ◌<◌}
 use mathlib.Core.Bool.{Bool, true, false, cond, not, ◌&&◌}
 use mathlib.Core.Path.{◌≡◌, refl, sym, ap, ap₂, ◌∙◌}
 use mathlib.Core.List.{List, [], ◌∷◌, map}
@@ -8,26 +12,23 @@ use borrow.Author.Tests.{ltb-true, ltb-false}
 use native.Mathlib.Numerals.{add-one}
 use native.Mathlib.Omega.{arith}
 use lib.Dec.{ltb}
-use lib.ListN.{drop}
+use lib.ListN.{length, take, drop, length-take, length-drop}
 use lib.Seq.{drop-drop}
 use Rattle.le.specs.Word.{word}
+use Rattle.le.proofs.Words.{word_within}
+use Rattle.std.proofs.lemmas.List.{drop-take}
 use Rattle.le.specs.Compare.{same}
-use Rattle.le.proofs.Tests.{apart, both, taken}
-use Rattle.ubios.specs.Layout.{table_header, name_of, is_gap, addresses, slots_of}
+use Rattle.ubios.specs.Layout.{table_header, root_header, name_of, is_gap, addresses, slots_of}
 use Rattle.ubios.specs.Checks.{table_at, checked, root_checked}
 use Rattle.ubios.specs.Lookup.{bad_name, passes, leads_on, leads, body_of, Lead, lead_at, led_to, named, body_in, body_at, hits, answer_of, looked_up, found}
 use Rattle.ubios.specs.Helpers.{hit_of, first_of}
 use Rattle.ubios.specs.declared.Table.{Table}
 use Rattle.ubios.specs.declared.Root.{Root}
 use Rattle.ubios.specs.declared.Reason.{Reason}
-use Rattle.ubios.specs.declared.Reason.TheVariants.{NoTable, BadName}
-use Rattle.ubios.specs.declared.Checked.{Checked}
-use Rattle.ubios.specs.declared.Checked.TheVariants.{Passed, Refused}
-use Rattle.ubios.specs.declared.RootChecked.TheVariants.{Passed as RootPassed, Refused as RootRefused}
+use Rattle.ubios.specs.declared.Reason.TheVariants.{BadName}
 use Rattle.ubios.specs.declared.lookup.Body.{Body}
-use Rattle.ubios.specs.declared.lookup.Found.TheVariants.{Only, Refused as Refuses}
-use Rattle.ubios.specs.declared.lookup.Hit.TheVariants.{None, Some}
-use Rattle.ubios.proofs.Answers.{passes_only}
+use Rattle.ubios.proofs.Answers.{passes_only, header_fits, header_used, root_passes_only}
+use Rattle.ubios.proofs.Ranges.{FirstHit}
 
 neither_way : (a : Bool) → a && false ≡ false
 neither_way true = refl
@@ -43,20 +44,20 @@ module _ (region : List ℕ) (base : ℕ) (name : List ℕ) (address : ℕ) wher
   unfolding leads
   other_name e = ap (λ (b : Bool). leads_on region base address && b) e ∙ neither_way (leads_on region base address)
 
-  pub fails : (reason : Reason) → checked table_header region base address ≡ Refused reason → leads region base name address ≡ false
+  pub fails : (reason : Reason) → checked table_header region base address ≡ Err reason → leads region base name address ≡ false
   unfolding leads leads_on
   fails reason e =
-      ap (λ (c : Checked). not (is_gap address) && passes c && same (name_of (table_at region base address)) name) e
+      ap (λ (c : Result Table Reason). not (is_gap address) && passes c && same (name_of (table_at region base address)) name) e
       ∙ ap (λ (b : Bool). b && same (name_of (table_at region base address)) name) (neither_way (not (is_gap address)))
 
   pub below_region : address < base → leads region base name address ≡ false
   below_region h = go (checked table_header region base address) refl
     where
-      go : (c : Checked) → checked table_header region base address ≡ c → leads region base name address ≡ false
-      go (Passed t) e = absurd (omega (arith, (passes_only table_header region base address t e).inside.start))
-      go (Refused reason) e = fails reason e
+      go : (c : Result Table Reason) → checked table_header region base address ≡ c → leads region base name address ≡ false
+      go (Ok t) e = absurd (omega (arith, (passes_only table_header region base address t e).inside.start))
+      go (Err reason) e = fails reason e
 
-  pub leads_there : (table : Table) → is_gap address ≡ false → checked table_header region base address ≡ Passed table
+  pub leads_there : (table : Table) → is_gap address ≡ false → checked table_header region base address ≡ Ok table
       → same (name_of (table_at region base address)) name ≡ true → leads region base name address ≡ true
   unfolding leads leads_on
   leads_there table ne e named = rw (ne, e, named)
@@ -64,33 +65,27 @@ module _ (region : List ℕ) (base : ℕ) (name : List ℕ) (address : ℕ) wher
   -- what is known of a slot that does
   pub record Led : Type 0 where
     pub table : Table
-    pub passes : checked table_header region base address ≡ Passed table
+    pub passes : checked table_header region base address ≡ Ok table
     pub named : same (name_of (table_at region base address)) name ≡ true
 
   pub led : leads region base name address ≡ true → Led
   unfolding leads leads_on
   led e =
-      let p = both (leads_on region base address) _ e in
-      let q = both (not (is_gap address)) _ p.0 in
+      let p = and_parts (leads_on region base address) _ e in
+      let q = and_parts (not (is_gap address)) _ p.0 in
       go (checked table_header region base address) refl q.1 p.1
     where
-      go : (c : Checked) → checked table_header region base address ≡ c → passes c ≡ true → same (name_of (table_at region base address)) name ≡ true → Led
-      go (Passed t) r h n = record { table = t; passes = r; named = n }
-      go (Refused reason) r h n = apart (cc)
+      go : (c : Result Table Reason) → checked table_header region base address ≡ c → passes c ≡ true → same (name_of (table_at region base address)) name ≡ true → Led
+      go (Ok t) r h n = record { table = t; passes = r; named = n }
+      go (Err reason) r h n = cc
 
   module _ (slot : ℕ) where
-    pub no_hit : leads region base name address ≡ false → hit_of region base name slot address ≡ None
-    no_hit e = rw e
-
-    pub hit : (table : Table) → is_gap address ≡ false → checked table_header region base address ≡ Passed table
+    pub hit : (table : Table) → is_gap address ≡ false → checked table_header region base address ≡ Ok table
         → same (name_of (table_at region base address)) name ≡ true
         → hit_of region base name slot address ≡ Some (body_of slot table)
     hit table ne e named =
         rw (leads_there table ne e named)
         (ap (λ (t : Table). Some (body_of slot t)) (sym (passes_only table_header region base address table e).is))
-
-some_inj : {a b : Body} → Some a ≡ Some b → a ≡ b
-some_inj e = cc
 
 -- the addresses from one slot on
 pub slots_from : (s : List ℕ) (count slot : ℕ) → slot < count
@@ -104,6 +99,16 @@ slots_from s count slot h =
 pub slots_end : (s : List ℕ) (count slot : ℕ) → count ≤ slot → addresses (count - slot) s ≡ []
 unfolding addresses
 slots_end s count slot h = let none : count - slot ≡ 0 = omega arith in rw none
+
+-- addresses that are cut out are those that stood there
+cut : (n : ℕ) (s : List ℕ) → 8 * n ≤ length s → addresses n (take (8 * n) s) ≡ addresses n s
+unfolding addresses
+cut zero s h = refl
+cut (suc n) s h =
+    let more : 8 * suc n ≡ 8 + 8 * n = omega arith in
+    let first : word 8 (take (8 + 8 * n) s) ≡ word 8 s = word_within 8 0 (8 + 8 * n) s (omega arith) (omega arith) in
+    let room = length-drop 8 s in
+    rw (more, first, drop-take 8 (8 * n) s, cut n (drop 8 s) (omega arith))
 
 -- a walk over the slots, which meets a hit or passes the slot over
 module _ (region : List ℕ) (base : ℕ) (name : List ℕ) where
@@ -157,7 +162,7 @@ module _ (region : List ℕ) (base : ℕ) (name : List ℕ) where
         where
           go : (t : Bool) → cond t (Some (body_at region base k a)) None ≡ None
               → cond t (body_at region base k a ∷ onward count s (k + 1)) (onward count s (k + 1)) ≡ onward count s (k + 1)
-          go true q = apart (cc)
+          go true q = cc
           go false q = refl
 
       pub met : (b : Body) → hit_of region base name k a ≡ Some b → onward count s k ≡ b ∷ onward count s (k + 1)
@@ -165,8 +170,34 @@ module _ (region : List ℕ) (base : ℕ) (name : List ℕ) where
         where
           go : (t : Bool) → cond t (Some (body_at region base k a)) None ≡ Some b
               → cond t (body_at region base k a ∷ onward count s (k + 1)) (onward count s (k + 1)) ≡ b ∷ onward count s (k + 1)
-          go true q = ap (λ (x : Body). x ∷ onward count s (k + 1)) (some_inj q)
-          go false q = apart (cc)
+          go true q = ap (λ (x : Body). x ∷ onward count s (k + 1)) (same_Some _ _ q)
+          go false q = cc
+
+  -- what the slot at a place leads to
+  abbrev pub hit_at : List ℕ → ℕ → Option Body
+  hit_at s k = hit_of region base name k (word 8 (drop (8 * k) s))
+
+  -- a walk past slots that lead nowhere, and what it meets first
+  passed_over : (count : ℕ) (s : List ℕ) (n k : ℕ) → k + n ≤ count → ((j : ℕ) → k ≤ j → j < k + n → hit_at s j ≡ None) → onward count s k ≡ onward count s (k + n)
+  passed_over count s zero k h none = ap (onward count s) (omega arith)
+  passed_over count s (suc n) k h none =
+      turn count s k (omega arith) (none k (omega arith) (omega arith))
+      ∙ passed_over count s n (k + 1) (omega arith) (λ j a b. none j (omega arith) (omega arith))
+      ∙ ap (onward count s) (omega arith)
+
+  pub first_met : (count : ℕ) (s : List ℕ) (k : ℕ) (r : Option Body) → FirstHit (hit_at s) k count r → r ≡ first_of (onward count s k)
+  first_met count s k None h =
+      elim (cases_lt k count) [
+        | inl l ↦
+            let all : k + (count - k) ≡ count = omega arith in
+            let over = passed_over count s (count - k) k (omega arith) (λ j a b. h j a (omega arith)) in
+            sym (ap first_of (over ∙ none_left count s (k + (count - k)) (omega arith)))
+        | inr l ↦ sym (ap first_of (none_left count s k l))
+      ]
+  first_met count s k (Some b) h =
+      let here : k + (h.0 - k) ≡ h.0 = omega (arith, h.1) in
+      let over = passed_over count s (h.0 - k) k (omega (arith, h.1, h.2)) (λ j a c. h.4 j a (omega (arith, h.1))) in
+      sym (ap first_of (over ∙ ap (onward count s) here ∙ met count s h.0 h.2 b h.3))
 
   -- what is known where the first of them is b: its slot, and that those from the next slot on are the others
   pub record First (count : ℕ) (s : List ℕ) (k : ℕ) (b : Body) : Type 0 where
@@ -174,7 +205,7 @@ module _ (region : List ℕ) (base : ℕ) (name : List ℕ) where
     pub others : onward count s k ≡ b ∷ onward count s (b.slot + 1)
 
   pub first : (count : ℕ) (s : List ℕ) (fuel k : ℕ) (b : Body) → count ≤ k + fuel → first_of (onward count s k) ≡ Some b → First count s k b
-  first count s zero k b enough e = let z = sym (ap first_of (none_left count s k (omega arith))) ∙ e in apart (cc)
+  first count s zero k b enough e = let z = sym (ap first_of (none_left count s k (omega arith))) ∙ e in cc
   first count s (suc fuel) k b enough e = by_end (ltb k count) refl (first count s fuel (k + 1) b (omega arith))
     where
       by_slot : k < count → (t : Bool) → leads region base name (word 8 (drop (8 * k) s)) ≡ t
@@ -182,7 +213,7 @@ module _ (region : List ℕ) (base : ℕ) (name : List ℕ) where
           → First count s k b
       by_slot h true q later =
           let here = met count s k h (body_at region base k (word 8 (drop (8 * k) s))) (rw q) in
-          let is = some_inj (sym (ap first_of here) ∙ e) in
+          let is = same_Some _ _ (sym (ap first_of here) ∙ e) in
           let slot : k ≡ b.slot = ap (λ (x : Body). x.slot) is in
           record {
             below = rw (← slot) h;
@@ -195,19 +226,12 @@ module _ (region : List ℕ) (base : ℕ) (name : List ℕ) where
 
       by_end : (t : Bool) → ltb k count ≡ t → (first_of (onward count s (k + 1)) ≡ Some b → First count s (k + 1) b) → First count s k b
       by_end true q later = by_slot (ltb-true k count q) (leads region base name (word 8 (drop (8 * k) s))) refl later
-      by_end false q later = let z = sym (ap first_of (none_left count s k (ltb-false k count q))) ∙ e in apart (cc)
+      by_end false q later = let z = sym (ap first_of (none_left count s k (ltb-false k count q))) ∙ e in cc
 
   -- the answer, by the first two hits
   module _ (count : ℕ) (s : List ℕ) where
     all : looked_up region base name (addresses count s) ≡ answer_of (onward count s 0)
     all = let whole : count - 0 ≡ count = omega arith in rw whole
-
-    pub none_met : first_of (onward count s 0) ≡ None → looked_up region base name (addresses count s) ≡ Refuses NoTable
-    none_met e = all ∙ go (onward count s 0) e
-      where
-        go : (l : List Body) → first_of l ≡ None → answer_of l ≡ Refuses NoTable
-        go [] q = refl
-        go (b ∷ l) q = apart (cc)
 
     -- the first hit is b
     module _ (b : Body) (one : first_of (onward count s 0) ≡ Some b) where
@@ -217,32 +241,62 @@ module _ (region : List ℕ) (base : ℕ) (name : List ℕ) where
       pub below_count : b.slot < count
       below_count = known.below
 
-      pub one_met : first_of (onward count s (b.slot + 1)) ≡ None → looked_up region base name (addresses count s) ≡ Only b
+      pub one_met : first_of (onward count s (b.slot + 1)) ≡ None → looked_up region base name (addresses count s) ≡ Ok b
       one_met e = all ∙ ap answer_of known.others ∙ go (onward count s (b.slot + 1)) e
         where
-          go : (l : List Body) → first_of l ≡ None → answer_of (b ∷ l) ≡ Only b
+          go : (l : List Body) → first_of l ≡ None → answer_of (b ∷ l) ≡ Ok b
           go [] q = refl
-          go (c ∷ l) q = apart (cc)
+          go (c ∷ l) q = cc
 
       pub two_met : (c : Body) → first_of (onward count s (b.slot + 1)) ≡ Some c → looked_up region base name (addresses count s) ≡ answer_of (b ∷ c ∷ [])
       two_met c e = all ∙ ap answer_of known.others ∙ go (onward count s (b.slot + 1)) e
         where
           go : (l : List Body) → first_of l ≡ Some c → answer_of (b ∷ l) ≡ answer_of (b ∷ c ∷ [])
-          go [] q = apart (cc)
+          go [] q = cc
           go (d ∷ l) q = refl
 
 -- 39, the root's refusals, and what is left to the slots
 module _ (region : List ℕ) (base root : ℕ) (name : List ℕ) where
-  pub bad_name_lem : bad_name name ≡ true → found region base root name ≡ Refuses BadName
+  pub bad_name_lem : bad_name name ≡ true → found region base root name ≡ Err BadName
   unfolding found
-  bad_name_lem e = taken _ (bad_name name) e
+  bad_name_lem e = cond-true (bad_name name) _ _ e
 
   module _ (good : bad_name name ≡ false) where
-    pub no_root : (reason : Reason) → root_checked region base root ≡ RootRefused reason → found region base root name ≡ Refuses reason
+    pub no_root : (reason : Reason) → root_checked region base root ≡ Err reason → found region base root name ≡ Err reason
     unfolding found
     no_root reason e = rw (good, e)
 
-    pub in_root_lem : (r : Root) → root_checked region base root ≡ RootPassed r
+    pub in_root_lem : (r : Root) → root_checked region base root ≡ Ok r
         → found region base root name ≡ looked_up region base name (slots_of (table_at region base root))
     unfolding found
     in_root_lem r e = rw (good, e)
+
+-- where the slots of a passing root stand
+module _ (region : List ℕ) (base address : ℕ) (r : Root) (e : root_checked region base address ≡ Ok r) where
+  pub slots_fit : r.table.at + root_header + 8 * r.count ≤ length region
+  slots_fit =
+      let p = root_passes_only region base address r e in
+      let at = ap (λ (t : Table). t.at) p.table.is in
+      let used = ap (λ (t : Table). t.used) p.table.is in
+      let room = length-drop (address - base) region in
+      omega (arith, p.room, p.table.sized.inside, at, used, room)
+
+  -- and that they are read there
+  abbrev slots_part : List ℕ
+  slots_part = take (8 * r.count) (drop (r.table.at + root_header) region)
+
+  pub slots_read : addresses (length slots_part / 8) slots_part ≡ slots_of (table_at region base address)
+  slots_read =
+      let p = root_passes_only region base address r e in
+      let all = drop (r.table.at + root_header) region in
+      let room : 8 * r.count ≤ length all = omega (arith, slots_fit, length-drop (r.table.at + root_header) region) in
+      let count : length slots_part / 8 ≡ r.count = rw length-take (omega arith) in
+      let place : all ≡ drop root_header (table_at region base address) =
+      ap (λ (t : Table). drop (t.at + root_header) region) p.table.is ∙ sym (drop-drop root_header (address - base) region) in
+      ap (λ (n : ℕ). addresses n slots_part) count ∙ cut r.count all room ∙ ap₂ addresses p.count place
+
+-- what a slot leads to, by the tests on the way
+pub ruleset slot_tests = (header_fits, header_used, at_gap, below_region, other_name, fails)
+
+-- the answer, by the first hit and the second
+pub ruleset hit_tests = (below_count, one_met, two_met)

@@ -1,17 +1,14 @@
 -- Document 01, "UBIOS tables": the checks of a table and of the root, in their order. "Memory is a lent region with the address of its first byte."
 -- Assumes nothing.
-use Rattle.std.specs.Prelude.{ℕ, ◌+◌, ◌*◌, ◌-◌, ◌%◌, Bool, cond, not, ◌||◌, List, ltb, eqb, length, drop}
+use Rattle.std.specs.Prelude.{ℕ, ◌+◌, ◌*◌, ◌-◌, ◌%◌, Bool, cond, not, ◌||◌, List, ltb, eqb, length, drop, Result, Ok, Err}
 use Rattle.le.specs.Sum.{sum}
 use Rattle.le.specs.Compare.{same}
 use Rattle.region.specs.Region.{outside}
 use Rattle.ubios.specs.Layout.{root_header, total_max, count_max, version, name_of, total_of, version_of, remaining_of, used_of, summed_part, root_name, count_of}
 use Rattle.ubios.specs.declared.Table.{Table}
+use Rattle.ubios.specs.declared.Root.{Root}
 use Rattle.ubios.specs.declared.Reason.{Reason}
 use Rattle.ubios.specs.declared.Reason.TheVariants.{Outside, Misaligned, BadSize, WrongVersion, WrongSum, NotRoot, BadCount, NoTable, TwoTables, BadName}
-use Rattle.ubios.specs.declared.Checked.{Checked}
-use Rattle.ubios.specs.declared.Checked.TheVariants.{Passed, Refused as Failed}
-use Rattle.ubios.specs.declared.RootChecked.{RootChecked}
-use Rattle.ubios.specs.declared.RootChecked.TheVariants.{Passed as RootPassed, Refused as RootFailed}
 
 abbrev pub number_of : Reason → ℕ
 number_of Outside = 30
@@ -64,18 +61,18 @@ abbrev pub wrong_sum : List ℕ → Bool
 wrong_sum part = not (eqb (sum 4 part) 0)
 
 -- 32, 33 and 34, of the table t that stands at that place of the region
-unfoldable pub judged : ℕ → ℕ → List ℕ → Checked
+unfoldable pub judged : ℕ → ℕ → List ℕ → Result Table Reason
 judged header at t =
-    cond (bad_size header (length t) (total_of t) (remaining_of t)) (Failed BadSize)
-    (cond (wrong_version t) (Failed WrongVersion)
-    (cond (wrong_sum (summed_part t)) (Failed WrongSum)
-    (Passed (record { at = at; used = used_of t }))))
+    cond (bad_size header (length t) (total_of t) (remaining_of t)) (Err BadSize)
+    (cond (wrong_version t) (Err WrongVersion)
+    (cond (wrong_sum (summed_part t)) (Err WrongSum)
+    (Ok (record { at = at; used = used_of t }))))
 
 -- what the checks of a table with a header of that size answer: where it stands in the region, and how long its used part is
-unfoldable pub checked : ℕ → List ℕ → ℕ → ℕ → Checked
+unfoldable pub checked : ℕ → List ℕ → ℕ → ℕ → Result Table Reason
 checked header region base address =
-    cond (misaligned address) (Failed Misaligned)
-    (cond (outside header (length region) base address) (Failed Outside)
+    cond (misaligned address) (Err Misaligned)
+    (cond (outside header (length region) base address) (Err Outside)
     (judged header (address - base) (table_at region base address)))
 
 -- 35: "name"
@@ -94,16 +91,16 @@ unfoldable pub bad_count : ℕ → ℕ → Bool
 bad_count used count = many_slots count || past_used used count
 
 -- 35 and 36, of a root that passes the checks of a table
-unfoldable pub root_judged : Table → List ℕ → RootChecked
+unfoldable pub root_judged : Table → List ℕ → Result Root Reason
 root_judged table t =
-    cond (not_root t) (RootFailed NotRoot)
-    (cond (bad_count table.used (count_of t)) (RootFailed BadCount)
-    (RootPassed (record { table = table; count = count_of t })))
+    cond (not_root t) (Err NotRoot)
+    (cond (bad_count table.used (count_of t)) (Err BadCount)
+    (Ok (record { table = table; count = count_of t })))
 
-abbrev pub root_after : Checked → List ℕ → RootChecked
-root_after (Failed reason) t = RootFailed reason
-root_after (Passed table) t = root_judged table t
+abbrev pub root_after : Result Table Reason → List ℕ → Result Root Reason
+root_after (Err reason) t = Err reason
+root_after (Ok table) t = root_judged table t
 
 -- what the checks of the root answer
-unfoldable pub root_checked : List ℕ → ℕ → ℕ → RootChecked
+unfoldable pub root_checked : List ℕ → ℕ → ℕ → Result Root Reason
 root_checked region base address = root_after (checked root_header region base address) (table_at region base address)

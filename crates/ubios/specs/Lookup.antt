@@ -1,18 +1,14 @@
 -- Document 01, "UBIOS tables": looking for a name.
 -- Assumes nothing.
-use Rattle.std.specs.Prelude.{ℕ, suc, ◌+◌, ◌-◌, Bool, true, false, cond, not, ◌&&◌, ◌||◌, List, [], ◌∷◌, map, ltb, eqb, length}
+use Rattle.std.specs.Prelude.{ℕ, suc, ◌+◌, ◌-◌, Bool, true, false, cond, not, ◌&&◌, ◌||◌, List, [], ◌∷◌, map, ltb, eqb, length, Result, Ok, Err}
 use Rattle.le.specs.Compare.{same}
 use Rattle.ubios.specs.Layout.{table_header, name_max, up_to_zero, name_of, used_of, is_gap, slots_of}
 use Rattle.ubios.specs.Checks.{table_at, checked, root_checked}
 use Rattle.ubios.specs.declared.Table.{Table}
+use Rattle.ubios.specs.declared.Root.{Root}
 use Rattle.ubios.specs.declared.lookup.Body.{Body}
+use Rattle.ubios.specs.declared.Reason.{Reason}
 use Rattle.ubios.specs.declared.Reason.TheVariants.{NoTable, TwoTables, BadName}
-use Rattle.ubios.specs.declared.Checked.{Checked}
-use Rattle.ubios.specs.declared.Checked.TheVariants.{Passed, Refused as Failed}
-use Rattle.ubios.specs.declared.RootChecked.{RootChecked}
-use Rattle.ubios.specs.declared.RootChecked.TheVariants.{Passed as RootPassed, Refused as RootFailed}
-use Rattle.ubios.specs.declared.lookup.Found.{Found}
-use Rattle.ubios.specs.declared.lookup.Found.TheVariants.{Only, Refused}
 
 -- "sought name empty, over 16 bytes, or with a zero byte"
 abbrev pub is_empty : List ℕ → Bool
@@ -32,9 +28,9 @@ no_name name = is_long name || has_zero name
 unfoldable pub bad_name : List ℕ → Bool
 bad_name name = is_empty name || no_name name
 
-abbrev pub passes : Checked → Bool
-passes (Passed table) = true
-passes (Failed reason) = false
+abbrev pub passes : Result Table Reason → Bool
+passes (Ok table) = true
+passes (Err reason) = false
 
 -- whether a slot with that address leads to a passing table: "A slot of 0 is a gap", "A slot whose table fails its checks counts as none."
 unfoldable pub leads_on : List ℕ → ℕ → ℕ → Bool
@@ -85,21 +81,21 @@ unfoldable pub hits : List ℕ → ℕ → List ℕ → ℕ → List ℕ → Lis
 hits region base name k slots = map body_in (named name (led_to region base k slots))
 
 -- "38 if two slots or more lead to passing tables of that name (even by the same address), 37 if none does"
-abbrev pub answer_of : List Body → Found
-answer_of [] = Refused NoTable
-answer_of (b ∷ []) = Only b
-answer_of (b ∷ c ∷ more) = Refused TwoTables
+abbrev pub answer_of : List Body → Result Body Reason
+answer_of [] = Err NoTable
+answer_of (b ∷ []) = Ok b
+answer_of (b ∷ c ∷ more) = Err TwoTables
 
 -- the look-up in a memory with these slots
-abbrev pub looked_up : List ℕ → ℕ → List ℕ → List ℕ → Found
+abbrev pub looked_up : List ℕ → ℕ → List ℕ → List ℕ → Result Body Reason
 looked_up region base name slots = answer_of (hits region base name 0 slots)
 
-abbrev pub in_root : RootChecked → List ℕ → ℕ → ℕ → List ℕ → Found
-in_root (RootFailed reason) region base address name = Refused reason
-in_root (RootPassed root) region base address name = looked_up region base name (slots_of (table_at region base address))
+abbrev pub in_root : Result Root Reason → List ℕ → ℕ → ℕ → List ℕ → Result Body Reason
+in_root (Err reason) region base address name = Err reason
+in_root (Ok root) region base address name = looked_up region base name (slots_of (table_at region base address))
 
 -- "39 first .., then the root's refusals, then 38 .., 37"
-unfoldable pub found : List ℕ → ℕ → ℕ → List ℕ → Found
+unfoldable pub found : List ℕ → ℕ → ℕ → List ℕ → Result Body Reason
 found region base root name =
-    cond (bad_name name) (Refused BadName)
+    cond (bad_name name) (Err BadName)
     (in_root (root_checked region base root) region base root name)

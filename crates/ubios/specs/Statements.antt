@@ -1,7 +1,7 @@
 -- What is proved of the checks and of the look-up, under the names given here. The proofs are in `proofs/Theorems.antt`, those whose names begin with `laid` in
 -- `proofs/Laid.antt`, those of `passes_only`, `root_passes_only` and `root_refusals` in `proofs/Answers.antt`.
 -- Assumes nothing.
-use Rattle.std.specs.Prelude.{ℕ, suc, ◌+◌, ◌*◌, ◌-◌, ◌%◌, ◌^◌, ◌≤◌, ◌<◌, true, false, cond, ◌≡◌, List, [], ◌∷◌, ◌++◌, ltb, length, take, drop}
+use Rattle.std.specs.Prelude.{ℕ, suc, ◌+◌, ◌*◌, ◌-◌, ◌%◌, ◌^◌, ◌≤◌, ◌<◌, true, false, cond, ◌≡◌, List, [], ◌∷◌, ◌++◌, ltb, length, take, drop, Result, Ok, Err}
 use Rattle.le.specs.Word.{word, bytes}
 use Rattle.le.specs.Sum.{sum, checksum_of}
 use Rattle.le.specs.Compare.{same}
@@ -13,11 +13,7 @@ use Rattle.ubios.specs.declared.Table.{Table}
 use Rattle.ubios.specs.declared.Root.{Root}
 use Rattle.ubios.specs.declared.Reason.{Reason}
 use Rattle.ubios.specs.declared.Reason.TheVariants.{NoTable, TwoTables}
-use Rattle.ubios.specs.declared.Checked.TheVariants.{Passed}
-use Rattle.ubios.specs.declared.RootChecked.TheVariants.{Passed as RootPassed, Refused as RootRefused}
 use Rattle.ubios.specs.declared.lookup.Body.{Body}
-use Rattle.ubios.specs.declared.lookup.Found.{Found}
-use Rattle.ubios.specs.declared.lookup.Found.TheVariants.{Only, Refused}
 
 -- Total Size and Remaining Size of a table that has `size` bytes of the region
 pub record Sized (header size total remaining : ℕ) : Type 0 where
@@ -46,7 +42,7 @@ pub record Passing (header : ℕ) (region : List ℕ) (base address : ℕ) (tabl
 abbrev pub PassesOnly : Type 0
 PassesOnly =
     (header : ℕ) (region : List ℕ) (base address : ℕ) (table : Table)
-    → checked header region base address ≡ Passed table
+    → checked header region base address ≡ Ok table
     → Passing header region base address table
 
 -- `root_passes_only`. What passes as a root passes as a table with a header of 40, is named `root_table`, and has at most 128 slots, all in its used part; the answer
@@ -61,14 +57,14 @@ pub record Rooted (region : List ℕ) (base address : ℕ) (root : Root) : Type 
 abbrev pub RootPassesOnly : Type 0
 RootPassesOnly =
     (region : List ℕ) (base address : ℕ) (root : Root)
-    → root_checked region base address ≡ RootPassed root
+    → root_checked region base address ≡ Ok root
     → Rooted region base address root
 
 -- `root_refusals`. A root is refused with 30 to 36 and no other number, so 37, 38 and 39 come of the look-up alone.
 abbrev pub RootRefusals : Type 0
 RootRefusals =
     (region : List ℕ) (base address : ℕ) (reason : Reason)
-    → root_checked region base address ≡ RootRefused reason
+    → root_checked region base address ≡ Err reason
     → (30 ≤ number_of reason) × (number_of reason ≤ 36)
 
 -- none of these slots leads to a passing table of the name
@@ -102,14 +98,14 @@ pub record TwoLead (region : List ℕ) (base root : ℕ) (name : List ℕ) : Typ
 pub record Walked (region : List ℕ) (base root : ℕ) (name : List ℕ) : Type 0 where
   pub sought : bad_name name ≡ false
   pub root_table : Root
-  pub root_passes : root_checked region base root ≡ RootPassed root_table
+  pub root_passes : root_checked region base root ≡ Ok root_table
 
 -- `found_only`, `only_found`. A body is found exactly where the name can be sought, the root passes, and one slot among all leads to a passing table of the name,
 -- wherever it stands; and it is that table's.
 abbrev pub FoundOnly : Type 0
 FoundOnly =
     (region : List ℕ) (base root : ℕ) (name : List ℕ) (b : Body)
-    → found region base root name ≡ Only b
+    → found region base root name ≡ Ok b
     → Walked region base root name × OnlyOne region base root name b
 
 abbrev pub OnlyFound : Type 0
@@ -117,13 +113,13 @@ OnlyFound =
     (region : List ℕ) (base root : ℕ) (name : List ℕ) (b : Body)
     → Walked region base root name
     → OnlyOne region base root name b
-    → found region base root name ≡ Only b
+    → found region base root name ≡ Ok b
 
 -- `found_none`, `none_found`. 37 is given exactly where the name can be sought, the root passes, and no slot leads to a passing table of the name.
 abbrev pub FoundNone : Type 0
 FoundNone =
     (region : List ℕ) (base root : ℕ) (name : List ℕ)
-    → found region base root name ≡ Refused NoTable
+    → found region base root name ≡ Err NoTable
     → Walked region base root name × NoneLeads region base name (slots_of (table_at region base root))
 
 abbrev pub NoneFound : Type 0
@@ -131,13 +127,13 @@ NoneFound =
     (region : List ℕ) (base root : ℕ) (name : List ℕ)
     → Walked region base root name
     → NoneLeads region base name (slots_of (table_at region base root))
-    → found region base root name ≡ Refused NoTable
+    → found region base root name ≡ Err NoTable
 
 -- `found_two`, `two_found`. 38 is given exactly where the name can be sought, the root passes, and two slots or more lead to passing tables of the name.
 abbrev pub FoundTwo : Type 0
 FoundTwo =
     (region : List ℕ) (base root : ℕ) (name : List ℕ)
-    → found region base root name ≡ Refused TwoTables
+    → found region base root name ≡ Err TwoTables
     → Walked region base root name × TwoLead region base root name
 
 abbrev pub TwoFound : Type 0
@@ -145,20 +141,20 @@ TwoFound =
     (region : List ℕ) (base root : ℕ) (name : List ℕ)
     → Walked region base root name
     → TwoLead region base root name
-    → found region base root name ≡ Refused TwoTables
+    → found region base root name ≡ Err TwoTables
 
 -- `behind_gap`. A table behind a gap is found, wherever the gap stands before it.
 abbrev pub BehindGap : Type 0
 BehindGap =
     (region : List ℕ) (base root : ℕ) (name : List ℕ) (r : Root) (before between : List ℕ) (address : ℕ) (after : List ℕ)
     → bad_name name ≡ false
-    → root_checked region base root ≡ RootPassed r
+    → root_checked region base root ≡ Ok r
     → slots_of (table_at region base root) ≡ before ++ (0 ∷ (between ++ (address ∷ after)))
     → leads region base name address ≡ true
     → NoneLeads region base name before
     → NoneLeads region base name between
     → NoneLeads region base name after
-    → found region base root name ≡ Only (body_at region base (length before + suc (length between)) address)
+    → found region base root name ≡ Ok (body_at region base (length before + suc (length between)) address)
 
 -- in two regions from the same address on, slots with these addresses lead to the same tables of the name, or to none
 abbrev pub SameTables : List ℕ → List ℕ → ℕ → List ℕ → List ℕ → Type 0
@@ -169,17 +165,17 @@ SameTables region region' base name (a ∷ slots) =
     × SameTables region region' base name slots
 
 -- the answer with the number of each slot from k on one higher
-abbrev pub moved_on : ℕ → Found → Found
-moved_on k (Refused reason) = Refused reason
-moved_on k (Only b) = Only (record { slot = cond (ltb b.slot k) b.slot (suc b.slot); at = b.at; length = b.length })
+abbrev pub moved_on : ℕ → Result Body Reason → Result Body Reason
+moved_on k (Err reason) = Err reason
+moved_on k (Ok b) = Ok (record { slot = cond (ltb b.slot k) b.slot (suc b.slot); at = b.at; length = b.length })
 
 -- `gap_added`. A gap more, anywhere among the slots, changes no answer but the number of a slot behind it: of two passing roots, the second with a gap more, whose
 -- slots lead to the same tables of the name.
 abbrev pub GapAdded : Type 0
 GapAdded =
     (region region' : List ℕ) (base root root' : ℕ) (name : List ℕ) (r r' : Root) (before after : List ℕ)
-    → root_checked region base root ≡ RootPassed r
-    → root_checked region' base root' ≡ RootPassed r'
+    → root_checked region base root ≡ Ok r
+    → root_checked region' base root' ≡ Ok r'
     → slots_of (table_at region base root) ≡ before ++ after
     → slots_of (table_at region' base root') ≡ before ++ (0 ∷ after)
     → SameTables region region' base name (before ++ after)
@@ -189,7 +185,7 @@ GapAdded =
 abbrev pub BodyInside : Type 0
 BodyInside =
     (region : List ℕ) (base root : ℕ) (name : List ℕ) (b : Body)
-    → found region base root name ≡ Only b
+    → found region base root name ≡ Ok b
     → b.at + b.length ≤ length region
 
 -- `body_bytes`. The body of a slot is the used part, from byte 32 on, of the table at its address.
@@ -224,7 +220,7 @@ LaidPasses =
     → header ≤ table_header + length body
     → Laid front field reserved remaining body rest base
     → checked header (front ++ (table_of field reserved remaining body ++ rest)) base (base + length front)
-    ≡ Passed (record { at = length front; used = table_header + length body })
+    ≡ Ok (record { at = length front; used = table_header + length body })
 
 -- what may follow a name in its field: a zero and anything, or nothing where the name fills the field
 abbrev pub EndsName : List ℕ → Type 0
@@ -256,7 +252,7 @@ root_body six slots more = bytes 2 (length slots) ++ (six ++ (slot_bytes slots +
 
 -- `laid_root`. Each root that is laid out by the rules, with at most 128 slots, passes the checks of a root, and its slots are those that were laid out.
 pub record RootLaid (region : List ℕ) (base root at used : ℕ) (slots : List ℕ) : Type 0 where
-  pub passes : root_checked region base root ≡ RootPassed (record { table = record { at = at; used = used }; count = length slots })
+  pub passes : root_checked region base root ≡ Ok (record { table = record { at = at; used = used }; count = length slots })
   pub slots_are : slots_of (table_at region base root) ≡ slots
 
 abbrev pub LaidRoot : Type 0
@@ -316,4 +312,4 @@ LaidFound =
     → (address ≡ 0 → ⊥)
     → NoneLeads region base name before
     → NoneLeads region base name after
-    → found region base root name ≡ Only (record { slot = length before; at = address - base + table_header; length = length body })
+    → found region base root name ≡ Ok (record { slot = length before; at = address - base + table_header; length = length body })

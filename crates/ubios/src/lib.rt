@@ -1,6 +1,5 @@
 // UBIOS tables (T/GCC 3007-2025, tables 12 and 13): the checks of a table and of the root table, and the
-// look-up of a table by its name. Memory is a lent region and the address of its first byte; any region and
-// any addresses get an answer.
+// look-up of a table by its name. Memory is a lent region; any region and any addresses get an answer.
 #![tactic(auto)]
 
 pub mod lookup;
@@ -10,24 +9,26 @@ ghost use Rattle.std.specs.Prelude.{◌≡◌, ◌≤◌, length};
 ghost use Rattle.ubios.specs.Layout.{table_header, root_header};
 ghost use Rattle.ubios.specs.Checks.{number_of, bad_size, judged, checked, bad_count, root_judged, root_checked};
 
-use name::is_named;
+use le::Word;
+use name::Name;
+pub use region::Region;
 
 // A table that passes its checks: where it stands in the region, and the length of its used part.
-#[derive(Clone, Copy)]
+#[derive(Clone, Copy, Debug, PartialEq, Eq)]
 pub struct Table {
     pub at: usize,
     pub used: usize,
 }
 
 // A root table that passes its checks, and how many slots it has.
-#[derive(Clone, Copy)]
+#[derive(Clone, Copy, Debug, PartialEq, Eq)]
 pub struct Root {
     pub table: Table,
     pub count: usize,
 }
 
 // Why a table, a root or a look-up is refused.
-#[derive(Clone, Copy)]
+#[derive(Clone, Copy, Debug, PartialEq, Eq)]
 pub enum Reason {
     // 30: the region runs past 2^64, or the header is not inside it.
     Outside,
@@ -51,18 +52,6 @@ pub enum Reason {
     BadName,
 }
 
-#[derive(Clone, Copy)]
-pub enum Checked {
-    Passed(Table),
-    Refused(Reason),
-}
-
-#[derive(Clone, Copy)]
-pub enum RootChecked {
-    Passed(Root),
-    Refused(Reason),
-}
-
 impl Reason {
     // The refusal's number.
     pub fn number(self) -> u32
@@ -84,60 +73,54 @@ impl Reason {
 }
 
 // Whether Total Size or Remaining Size is not legal in a table that has `size` bytes of the region.
+#[tactic(auto, unfolding(crate::specs::Checks::bad_size))]
 fn is_bad_size(header: usize, size: usize, total: usize, remaining: usize) -> bool
     ensures { result ≡ bad_size header size total remaining }
 {
-    if total < header {
-        return true;
-    }
-    if Table::TOTAL_MAX < total {
-        return true;
-    }
-    if size < total {
-        return true;
-    }
-    total - header < remaining
+    total < header || Table::TOTAL_MAX < total || size < total || total - header < remaining
 }
 
 // 32, 33 and 34, of the table that stands at that place of the region. Too few bytes for a header would be 32 as
-// well; once that is tested, each word behind it is one load.
-fn judge(header: usize, at: usize, table: &[u8]) -> Checked
+// well; once that is tested, each word behind it is one load. The checks before it are small enough to be compiled in
+// place, so with this as the one call of a check no region is laid out in memory to be passed.
+#[inline(never)]
+#[tactic(auto, using(crate::proofs::Answers::short_size, crate::proofs::Answers::sized), unfolding(crate::specs::Checks::judged))]
+fn judge(header: usize, at: usize, table: &[u8]) -> Result<Table, Reason>
     requires { table_header ≤ header }
     ensures { result ≡ judged header at table.now }
 {
     if table.len() < Table::HEADER {
-        return Checked::Refused(Reason::BadSize);
+        return Err(Reason::BadSize);
     }
-    let total = le::word::u32_at(table, 16) as usize;
-    let remaining = le::word::u32_at(table, 24) as usize;
+    let total = u32::at(table, 16) as usize;
+    let remaining = u32::at(table, 24) as usize;
     if is_bad_size(header, table.len(), total, remaining) {
-        return Checked::Refused(Reason::BadSize);
+        return Err(Reason::BadSize);
     }
-    if le::word::u8_at(table, 20) != Table::VERSION {
-        return Checked::Refused(Reason::WrongVersion);
+    if u8::at(table, 20) != Table::VERSION {
+        return Err(Reason::WrongVersion);
     }
     let used = total - remaining;
-    if le::sum::sum32(le::head(table, used)) != 0 {
-        return Checked::Refused(Reason::WrongSum);
+    if le::sum::sum::<u32>(le::head(table, used)) != 0 {
+        return Err(Reason::WrongSum);
     }
-    Checked::Passed(Table { at, used })
+    Ok(Table { at, used })
 }
 
 // The checks of a table with a header of that size.
-fn check(header: usize, region: &[u8], base: u64, address: u64) -> Checked
+#[tactic(auto, using(region::proofs::Answers::not_outside), unfolding(crate::specs::Checks::checked))]
+fn check(header: usize, region: Region<'_>, address: u64) -> Result<Table, Reason>
     requires { table_header ≤ header }
-    ensures { result ≡ checked header region.now base address }
+    ensures { result ≡ checked header region.entry.bytes.now region.entry.base address }
 {
-    let misaligned = address % 8 != 0;
-    let outside = region::is_outside(header, region.len(), base, address);
-    if misaligned {
-        return Checked::Refused(Reason::Misaligned);
+    if !address.is_multiple_of(8) {
+        return Err(Reason::Misaligned);
     }
-    if outside {
-        return Checked::Refused(Reason::Outside);
+    if region.span().is_outside(header, address) {
+        return Err(Reason::Outside);
     }
-    let at = (address - base) as usize;
-    judge(header, at, &region[at..])
+    let at = (address - region.base) as usize;
+    judge(header, at, &region.bytes[at..])
 }
 
 impl Table {
@@ -148,10 +131,10 @@ impl Table {
     pub const VERSION: u8 = 1;
 
     // The table at an address, or the first reason to refuse it.
-    pub fn check(region: &[u8], base: u64, address: u64) -> Checked
-        ensures { result ≡ checked table_header region.now base address }
+    pub fn check(region: Region<'_>, address: u64) -> Result<Self, Reason>
+        ensures { result ≡ checked table_header region.entry.bytes.now region.entry.base address }
     {
-        check(Self::HEADER, region, base, address)
+        check(Self::HEADER, region, address)
     }
 }
 
@@ -163,44 +146,37 @@ impl Root {
     pub const SLOT_SIZE: usize = 8;
 
     // Whether Count is not legal in a root with that used part.
+    #[tactic(auto, unfolding(crate::specs::Checks::bad_count))]
     fn is_bad_count(used: usize, count: usize) -> bool
         ensures { result ≡ bad_count used count }
     {
-        if Self::COUNT_MAX < count {
-            return true;
-        }
-        used < Self::HEADER + Self::SLOT_SIZE * count
+        Self::COUNT_MAX < count || used < Self::HEADER + Self::SLOT_SIZE * count
     }
 
     // 35 and 36, of a root that passes the checks of a table. So its header is there; the test, which never holds,
     // says it to the compiler, and each word is one load.
-    fn judge(table: Table, root: &[u8]) -> RootChecked
+    #[tactic(auto, unfolding(crate::specs::Checks::root_judged))]
+    fn judge(table: Table, root: &[u8]) -> Result<Self, Reason>
         requires { root_header ≤ length root.now }
         ensures { result ≡ root_judged table root.now }
     {
-        if root.len() < Self::HEADER {
-            return RootChecked::Refused(Reason::NotRoot);
+        if root.len() < Self::HEADER || !Name::root().is_of(root) {
+            return Err(Reason::NotRoot);
         }
-        if !is_named(root, b"root_table") {
-            return RootChecked::Refused(Reason::NotRoot);
-        }
-        let count = le::word::u16_at(root, 32) as usize;
+        let count = usize::from(u16::at(root, 32));
         if Self::is_bad_count(table.used, count) {
-            return RootChecked::Refused(Reason::BadCount);
+            return Err(Reason::BadCount);
         }
-        RootChecked::Passed(Root { table, count })
+        Ok(Root { table, count })
     }
 
     // The root table at an address, or the first reason to refuse it.
-    pub fn check(region: &[u8], base: u64, address: u64) -> RootChecked
-        ensures { result ≡ root_checked region.now base address }
+    #[inline]
+    #[tactic(auto, using(crate::proofs::Answers::passes_only), unfolding(crate::specs::Checks::root_checked))]
+    pub fn check(region: Region<'_>, address: u64) -> Result<Self, Reason>
+        ensures { result ≡ root_checked region.entry.bytes.now region.entry.base address }
     {
-        match check(Self::HEADER, region, base, address) {
-            Checked::Refused(reason) => RootChecked::Refused(reason),
-            Checked::Passed(table) => {
-                let at = table.at;
-                Self::judge(table, &region[at..])
-            }
-        }
+        let table = check(Self::HEADER, region, address)?;
+        Self::judge(table, &region.bytes[table.at..])
     }
 }

@@ -12,6 +12,6 @@ pub returns : goal.returns
 returns c =
     let frame = c.args.frame.now in
     let built = c.args.built.now in
-    let header = c.head.ensures ∙ ap (take header_size) c.u64_bytes-n.ensures ∙ lowest (length frame) in
+    let header = c.head.ensures ∙ ap (take header_size) c.bytes-n.ensures ∙ lowest (length frame) in
     let first_is = c.copy.ensures ∙ ap (λ (l : List ℕ). copied l built) header in
     copied_behind (bytes header_size (length frame)) frame built _ _ header_size (length-bytes header_size (length frame)) c.requires first_is c.copy-2.ensures

@@ -23,28 +23,27 @@ answer_is : (k : ℕ) (b : List ℕ) (h : Header) (piece : List ℕ) (state : St
     → answer ≡ (received (Parsed.Header h) piece state (part k b)).answer
 answer_is k b h piece state answer e = e ∙ ap (λ (p : List ℕ). (received (Parsed.Header h) piece state p).answer) (lent k b)
 
-pub put-requires : goal.put-requires
-put-requires c =
-    let k = c.args.k in
+pub invariant_of-next : goal.invariant_of-next
+invariant_of-next c =
+    let k = c.args.seat.k in
     let b = c.args.buf.now in
-    let pre = c.requires.places_len in
-    let fits : place_size * k + place_size ≤ length b = omega (arith, pre) in
-    let ok = c.requires.keeps c.args.state (part k b) (length_part k b fits) c.requires.place_size_value in
-    let is = answer_is k b c.args.h c.args.piece.now c.args.state c.receive-answer.result c.receive-answer.ensures.value in
-    (pre.0, pre.1, ap (λ (a : Answer). consistent a.state place_size) is ∙ ok)
+    let fits : place_size * k + place_size ≤ length b = omega (arith, c.args.seat.in_range, c.requires.room_enough) in
+    let ok = c.requires.keeps c.args.seat.state (part k b) (length_part k b fits) c.args.seat.fits in
+    let is = answer_is k b c.args.h c.args.piece.now c.args.seat.state c.receive-answer.result c.receive-answer.ensures.value in
+    record { in_range = omega (arith, c.args.seat.in_range); fits = ap (λ (a : Answer). consistent a.state place_size) is ∙ ok }
 
 pub returns : goal.returns
 returns c =
-    let k = c.args.k in
+    let k = c.args.seat.k in
     let b = c.args.buf.now in
     let numbers = c.args.places.now in
-    let is = answer_is k b c.args.h c.args.piece.now c.args.state c.receive-answer.result c.receive-answer.ensures.value in
-    let bytes = c.receive-answer.ensures.buf_after ∙ ap (λ (p : List ℕ). (received (Parsed.Header c.args.h) c.args.piece.now c.args.state p).buffer) (lent k b) in
+    let is = answer_is k b c.args.h c.args.piece.now c.args.seat.state c.receive-answer.result c.receive-answer.ensures.value in
+    let bytes = c.receive-answer.ensures.buf_after ∙ ap (λ (p : List ℕ). (received (Parsed.Header c.args.h) c.args.piece.now c.args.seat.state p).buffer) (lent k b) in
     record {
       value = c.place.ensures ∙ ap (λ (a : Answer). placed k a.verdict) is;
       places_after = c.put.ensures.places_after ∙ ap (λ (a : Answer). relaid k a.state numbers) is;
-      places_after_2 = c.put.ensures.places_after_2 ∙ ap (λ (a : Answer). set (places_in numbers) k a.state) is;
+      read_back = c.put.ensures.read_back ∙ ap (λ (a : Answer). set (places_in numbers) k a.state) is;
       buf_after =
-          ap (λ (l : List ℕ). take (place_size * k) b ++ (c.receive-answer.new.buf ++ l)) (Post-is (place_size * k) (place_size * k + place_size) b (omega arith))
+          ap (λ (l : List ℕ). take (place_size * k) b ++ (c.receive-answer.new.buf ++ l)) (Post-is (place_size * k) (place_size * k + place_size) b (omega (arith, c.args.seat.in_range, c.requires.room_enough)))
           ∙ ap (λ (l : List ℕ). with_part k l b) bytes;
     }

@@ -12,7 +12,7 @@ unfolding state_of_def
 eight b = refl
 
 pub returns : goal.returns
-returns c = let b = c.args.b in ap (λ (s : State). playing s (get_or b 8 0)) (c.state_of-state.ensures ∙ eight b)
+returns c = let b = c.args.b in ap (λ (s : State). playing s (get_or b 8 0)) (c.state_of.ensures ∙ eight b)
   where
     playing : State → ℕ → Player
     playing s n = record { state = s; number = n }

@@ -1,16 +1,11 @@
-use Rattle.std.proofs.Common.{sym, ◌∙◌, rules}
-use Rattle.sfi.proofs.Searching.{over, at, end, bad_memory, searched}
+-- The chain finds the first hit of the places.
+use Rattle.std.proofs.Common.{rules, tests, ◌∙◌}
+use Rattle.sfi.proofs.Searching.{first_of_run}
 use Rattle.sfi.proofs.search.find_syst.Goals as goal
 
-pub returns-then-memory-ne-MEMORY_SIZE : goal.returns-then-memory-ne-MEMORY_SIZE
-returns-then-memory-ne-MEMORY_SIZE c = sym (bad_memory _ c.if-memory-ne-MEMORY_SIZE.true)
-
-pub returns-then-is_hit : goal.returns-then-is_hit
-returns-then-is_hit c =
-    sym (searched _ c.if-memory-ne-MEMORY_SIZE.false ∙ sym c.loop-i.invariant.1 ∙ at _ _ (search rules) (sym c.if-is_hit.ensures))
-
-pub loop-i-preserved : goal.loop-i-preserved
-loop-i-preserved c = (search rules, sym (over _ _ (search rules) (sym c.if-is_hit.ensures)) ∙ c.loop-i.invariant.1)
-
 pub returns : goal.returns
-returns c = sym (searched _ c.if-memory-ne-MEMORY_SIZE.false ∙ sym c.loop-i.invariant.1 ∙ end _ _ (search rules))
+returns c =
+    let places = c.find.ensures.runs in
+    let bytes = c.step_by.ensures.runs places.0 places.0.seen places.1 in
+    c.ok_or.ensures.value
+    ∙ first_of_run places.0 bytes.0 bytes.1 bytes.2 _ _ c.args.memory.now (λ a r q k. search rules) (λ x b k. search (rules, tests)) _ places.2 c.if-memory-ne-MEMORY_SIZE.false

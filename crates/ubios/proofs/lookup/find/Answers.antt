@@ -1,28 +1,22 @@
 -- 39, the root's refusals, and then what its slots lead to.
-use Rattle.std.proofs.Common.{ℕ, List, drop, sym, ap, ap₂, ◌∙◌}
-use Rattle.ubios.specs.Layout.{root_header, addresses}
+use Rattle.std.proofs.Common.{ℕ, List, ◌≤◌, ◌+◌, ◌*◌, ◌/◌, length, take, sym, ap, ap₂, ◌∙◌, arith, length-take, length-drop}
+use Rattle.le.proofs.Parts.{rest}
+use Rattle.ubios.specs.Layout.{addresses}
 use Rattle.ubios.specs.Lookup.{looked_up}
-use Rattle.ubios.specs.declared.Table.{Table}
-use Rattle.ubios.proofs.Answers.{root_passes_only}
-use Rattle.ubios.proofs.Names.{sought}
-use Rattle.ubios.proofs.Walking.{bad_name_lem, no_root, in_root_lem}
+use Rattle.ubios.proofs.Walking.{in_root_lem, slots_fit, slots_read}
 use Rattle.ubios.proofs.lookup.find.Goals as goal
 
-pub returns-then-is_bad_name : goal.returns-then-is_bad_name
-returns-then-is_bad_name c = sym (bad_name_lem _ _ _ _ (sym c.is_bad_name.ensures ∙ c.if-is_bad_name.true))
+pub slice_bounds-walk-end : goal.slice_bounds-walk-end
+slice_bounds-walk-end c =
+    let fits : c.in_ok-root.root.table.at + 40 + 8 * c.in_ok-root.root.count ≤ length c.args.region.bytes.now = slots_fit _ _ _ _ (sym c.in_ok-root.ensures) in
+    simp (length-take, length-drop) (omega arith)
 
-pub walk-requires : goal.walk-requires
-walk-requires c = ((root_passes_only _ _ _ _ (sym c.in-Passed.ensures)).few, sought _ (sym c.is_bad_name.ensures ∙ c.if-is_bad_name.false))
-
-pub returns-in-Refused : goal.returns-in-Refused
-returns-in-Refused c = sym (no_root _ _ _ _ (sym c.is_bad_name.ensures ∙ c.if-is_bad_name.false) _ (sym c.in-Refused.ensures))
-
-pub returns-in-Passed : goal.returns-in-Passed
-returns-in-Passed c =
-    let a = c.args in
-    let known = root_passes_only _ _ _ _ (sym c.in-Passed.ensures) in
-    let at_root = ap (λ (t : Table). drop t.at a.region.now) known.table.is in
-    let slots = c.tail-slots.ensures ∙ ap (drop root_header) (c.tail.ensures ∙ at_root) in
+pub returns : goal.returns
+returns c =
+    let r = c.args.region in
+    let root = c.in_ok-root.root in
+    let slots : List ℕ → List ℕ = λ s. addresses (length s / 8) s in
     c.walk.ensures
-    ∙ ap₂ (λ (n : ℕ) (s : List ℕ). looked_up a.region.now a.base a.name.now (addresses n s)) known.count slots
-    ∙ sym (in_root_lem _ _ _ _ (sym c.is_bad_name.ensures ∙ c.if-is_bad_name.false) _ (sym c.in-Passed.ensures))
+    ∙ ap₂ (λ (n s : List ℕ). looked_up r.bytes.now r.base n (slots s)) c.in_ok-name.ensures.1 (ap (take (8 * root.count)) (rest r.bytes.now (root.table.at + 40)))
+    ∙ ap (looked_up r.bytes.now r.base c.args.name.now) (slots_read _ _ _ root (sym c.in_ok-root.ensures))
+    ∙ sym (in_root_lem _ _ _ _ c.in_ok-name.ensures.0 _ (sym c.in_ok-root.ensures))
