@@ -7,6 +7,7 @@ use frame::{Envelope, Header, Words};
 use report::{Bytes, Lossy, Refused};
 use std::io;
 
+// Who receives, and under what is sent. Another part has the same numbers: each says those that its own lines print.
 const RECEIVER: u32 = 11;
 
 // The size of the pieces that most messages here are cut in.

@@ -6,6 +6,7 @@ use reassembly::{State, Verdict};
 use report::{Bytes, Lossy, Refused};
 use std::io;
 
+// Who receives, and under what is sent. Another part has the same numbers: each says those that its own lines print.
 const RECEIVER: u32 = 11;
 
 const ENVELOPE: Envelope = Envelope {

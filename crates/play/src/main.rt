@@ -64,8 +64,8 @@ fn read_receiver(rt: &(impl Files + Env)) -> Option<u32> {
     replay::receiver_in(&file[..n])
 }
 
-// Plays what was read, and writes its lines: what a call leaves unread is handed in again. A call that reads nothing
-// has no record number left.
+// Plays what was read, and writes its lines: what a call leaves unread is handed in again, which no iterator knows before
+// the call. A call that reads nothing has no record number left.
 fn play_part(
     rt: &impl Print,
     player: Player,

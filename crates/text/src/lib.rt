@@ -44,6 +44,7 @@ impl Writer<'_> {
     }
 }
 
+// Digits are counted and put here, and not by `Display`: `write!` can fail, and `put_decimal` cannot.
 fn count_digits(n: u64) -> usize
     ensures { result ≡ length (decimal n) }
 {

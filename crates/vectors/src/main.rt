@@ -1,7 +1,6 @@
 // The numbers to check by, and every refusal at least once: each is run through the proved code, and has a line
 // that says what was done and what came out. Each subject but the frame log is a crate of its own, and is proved apart.
-// A write that fails ends the lines of its subject, and the next one starts: what is printed is compared with what is
-// kept, and a gap shows there.
+// A write that fails is passed over: what is printed is compared with what is kept, and a gap shows there.
 #![tactic(auto)]
 
 mod log;
