@@ -10,7 +10,6 @@ use mathlib.Core.List.{List}
 use borrow.Author.Tests.{leb-true, leb-false, ltb-false, le-leb, lt-leb}
 use Rattle.std.specs.Prelude.{Result, Ok, Err}
 use lib.Dec.{ltb, leb}
-use native.Mathlib.Omega.{arith}
 use lib.ListN.{length, length-append}
 use Rattle.le.specs.Word.{bytes}
 use Rattle.frame.specs.Layout.{header_size, message_max, header_bytes, frame_of}

@@ -72,7 +72,7 @@ fn lay(header: Header, piece: &[u8], out: &mut [u8]) -> Result<usize, Reason>
         return Err(Reason::OutputShort);
     }
     out[..Header::SIZE].copy_from_slice(&header.bytes());
-    out[Header::SIZE..length].copy_from_slice(piece);
+    le::copy(piece, &mut out[Header::SIZE..]);
     Ok(length)
 }
 

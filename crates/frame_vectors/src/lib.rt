@@ -155,7 +155,8 @@ fn run_all(rt: &impl Print) -> io::Result<()> {
     run_reader(rt)
 }
 
-// A write that fails is passed over, and the next is tried.
+// A write that fails is passed over, and the next is tried. Never inlined, so that the parts' frames don't add up in `main`'s.
+#[inline(never)]
 pub fn run(rt: &impl Print) {
     let _ = run_all(&Lossy(rt));
 }

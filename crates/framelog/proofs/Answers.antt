@@ -1,20 +1,16 @@
 -- The laws of a record: one for each answer, with what leads there.
 -- Assumes nothing.
 use Prim.Native.Nat.{ℕ, zero, suc, ◌+◌, ◌-◌, ◌/◌, ◌%◌, ◌^◌, ◌≤◌, ◌<◌}
-use mathlib.Core.Bool.{Bool, true, false, ◌&&◌, and_assoc, and-true}
+use mathlib.Core.Bool.{true, false}
 use mathlib.Core.Path.{◌≡◌, refl, sym, ap, ◌∙◌}
-use mathlib.Core.List.{List, [], ◌∷◌, ◌++◌, append-nil, append_assoc}
+use mathlib.Core.List.{List, ◌++◌, append-nil, append_assoc}
 use borrow.Author.Tests.{le-ltb, eq-eqb, ne_eqb}
 use native.Mathlib.Omega.{arith}
 use lib.ListN.{length, take, drop, length-append, length-drop, length-replicate, drop_of_length-le}
 use lib.Seq.{get_or-drop, length-take-le}
-use Rattle.std.specs.Prelude.{bit_or, ◌==◌, Ok, Err}
-use Rattle.std.specs.List.{fold}
-use Rattle.std.specs.Int.Bits.{or_zero_l}
+use Rattle.std.specs.Prelude.{Ok, Err}
 use Rattle.std.proofs.lemmas.List.{take-replicate, drop-replicate}
-use Rattle.std.proofs.lemmas.Nat.{le_or_l}
 use Rattle.le.specs.Word.{word, bytes, AreBytes}
-use Rattle.le.specs.Compare.{same}
 use Rattle.le.specs.Copy.{copied}
 use Rattle.le.proofs.Words.{length-bytes, word_same, word_within}
 use Rattle.le.proofs.Comparing.{equal_same, other_list}
@@ -37,21 +33,6 @@ zeros_are : (n : ℕ) → AreBytes (zeros n)
 zeros_are zero i = omega arith
 zeros_are (suc n) zero = omega arith
 zeros_are (suc n) (suc i) = zeros_are n i
-
--- a `|` is 0 where both are, and the `|` of all bytes where each is
-or_zero : (a b : ℕ) → (bit_or a b == 0) ≡ (a == 0 && b == 0)
-or_zero zero b = rw (or_zero_l b)
-or_zero (suc a) b =
-    let above = le_or_l (suc a) b in
-    ne_eqb _ 0 (λ e. omega arith) ∙ ap (λ (first : Bool). first && b == 0) (sym (ne_eqb (suc a) 0 (λ e. omega arith)))
-
-or_all : (a : ℕ) (s : List ℕ) → (fold bit_or a s == 0) ≡ (a == 0 && is_zero_def s)
-unfolding same
-or_all a [] = sym (and-true (a == 0))
-or_all a (x ∷ s) = or_all (bit_or a x) s ∙ rw (or_zero a x) (and_assoc (a == 0) (x == 0) (is_zero_def s))
-
-pub zero_by_or : (s : List ℕ) → (fold bit_or 0 s == 0) ≡ is_zero_def s
-zero_by_or s = or_all 0 s
 
 -- the reserved bytes are zero where their word is
 module _ (r : List ℕ) (large : header_size ≤ length r) where

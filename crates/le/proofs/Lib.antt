@@ -1,5 +1,6 @@
 -- The laws of words and sums, once over the width. Crates above cite them.
 pub mod Comparing
+pub mod Copying
 pub mod Parts
 pub mod Words
 pub mod Sums

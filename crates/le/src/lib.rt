@@ -48,6 +48,19 @@ pub fn same(a: &[u8], b: &[u8]) -> bool
     true
 }
 
+// Byte by byte: a loop from slice to slice stays one, since they might overlap. It counts its places itself, so that a wrong
+// copy can be planted in it: there is no such place in `copy_from_slice`.
+fn copy_bytes(src: &[u8], dst: &mut [u8])
+    ensures { dst.new ≡ copied src.now dst.old }
+{
+    let n = src.len().min(dst.len());
+    let mut i = 0;
+    while i < n {
+        dst[i] = src[i];
+        i += 1;
+    }
+}
+
 // Copies src to the start of dst, as much of it as fits; the rest of dst stays. Lent `&mut d[at..]`,
 // it changes d from `at` on. By way of an array, which overlaps neither: the compiler makes one `memmove` of
 // the two copies, and the array vanishes. Copied from the one to the other it first asks whether they overlap, in three
@@ -61,9 +74,9 @@ pub fn copy(src: &[u8], dst: &mut [u8])
     }
     if n <= 4096 {
         let mut held = [0u8; 4096];
-        held[..n].copy_from_slice(&src[..n]);
-        dst[..n].copy_from_slice(&held[..n]);
+        copy_bytes(&src[..n], &mut held);
+        copy_bytes(&held[..n], dst);
     } else {
-        dst[..n].copy_from_slice(&src[..n]);
+        copy_bytes(src, dst);
     }
 }

@@ -169,13 +169,13 @@ impl Word for u64 {
     }
 
     fn at(s: &[u8], at: usize) -> u64 {
-        let rest = tail(s, at);
-        if 8 <= rest.len() {
+        let here = tail(s, at);
+        if 8 <= here.len() {
             u64::from_le_bytes([
-                rest[0], rest[1], rest[2], rest[3], rest[4], rest[5], rest[6], rest[7],
+                here[0], here[1], here[2], here[3], here[4], here[5], here[6], here[7],
             ])
         } else {
-            short_u64(rest)
+            short_u64(here)
         }
     }
 

@@ -13,8 +13,8 @@ use Rattle.std.proofs.lemmas.Iterator.Adapters.{option_map_id}
 use Rattle.std.proofs.Common.{Option, None, Some, Result, Ok, Err, is_ok, ok_or, IsTrue, MatchOption, IfSome, IsSomeAnd, Bor, add-one}
 use Rattle.std.specs.Fn.{CalledAt}
 use Rattle.std.specs.declared.ops.Range.{Range}
-use denote.Param.Members.{Mut}
-use Rattle.std.specs.Iterator.Runs.{Run, IsStepByRun, ItemsCountUp, CallKeepsClosure, NoItemPasses, EndsAtFirstPassing}
+use denote.Param.Members.{Mut, Called}
+use Rattle.std.specs.Iterator.Runs.{Run, IsMapRun, ItemsCountUp, CallKeepsClosure, NoItemPasses, EndsAtFirstPassing}
 use Rattle.std.proofs.iter.Yields.{nat_range_steps}
 use Rattle.std.proofs.iter.runs.Sources.{range_runs}
 use Rattle.sfi.specs.Kinds.{syst}
@@ -117,25 +117,35 @@ none_to memory (suc n) h none =
     ∙ over memory n h (none n (omega arith))
     ∙ ap (from memory) (add-one n)
 
--- a run over each 16th of the numbers below the memory's size gives the places
+-- a run over 16 times each of the numbers below `tries` gives the places
 module _ {S : Type 0} {steps : S → Option ℕ → S → Type 0}
     (p : Run steps)
     (q : Run nat_range_steps)
-    (whole_memory : q.from ≡ record { start = 0; end = memory_size })
-    (every : IsStepByRun p q step) where
-  bytes : ItemsCountUp q 0 memory_size
-  bytes = subst (λ (r : Range ℕ). ItemsCountUp q r.start r.end) whole_memory (range_runs q q.seen)
+    (whole_memory : q.from ≡ record { start = 0; end = tries })
+    {G : Type 0}
+    (m : Mut G (ℕ × Unit {0}) ℕ)
+    (h : G)
+    (every : IsMapRun p q m h)
+    (stays : CallKeepsClosure m h)
+    (times : (x y : ℕ) → Called m h (x, tt) y h → y ≡ step * x) where
+  numbers : ItemsCountUp q 0 tries
+  numbers = subst (λ (r : Range ℕ). ItemsCountUp q r.start r.end) whole_memory (range_runs q q.seen)
 
   most : p.len ≤ tries
-  most = omega (arith, bytes.0, every.3)
+  most = omega (arith, numbers.0, every.1)
 
   all_tried : p.whole ≡ true → p.len ≡ tries
-  all_tried w = omega (arith, bytes.1 (every.0 ∙ w), every.2, every.3)
+  all_tried w = omega (arith, numbers.1 (every.0 ∙ w), every.1)
+
+  place_of : (k : ℕ) (o : Option ℕ) → IfSome (Some k) (λ x. IsSomeAnd o (λ y. Called m h (x, tt) y h)) → o ≡ Some (step * k)
+  place_of k None c = absurd c
+  place_of k (Some y) c = ap Some (times k y c)
 
   place_at : (k : ℕ) → k < p.len → p.at k ≡ Some (step * k)
-  place_at k h =
-      let same : 0 + k * step ≡ step * k = omega arith in
-      every.4 k ∙ sym (option_map_id (q.at (k * step))) ∙ bytes.3 (k * step) (omega (arith, every.3)) ∙ ap Some same
+  place_at k l =
+      let same : 0 + k ≡ k = omega arith in
+      let number = sym (option_map_id (q.at k)) ∙ numbers.3 k (omega (arith, every.1)) ∙ ap Some same in
+      place_of k (p.at k) (subst (λ (o : Option ℕ). IfSome o (λ x. IsSomeAnd (p.at k) (λ y. Called m h (x, tt) y h))) number ((every.2 stays).0 k))
 
   -- what `find` says of such a run, with a test for hits
   module _ {F : Type 0}

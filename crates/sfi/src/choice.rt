@@ -44,6 +44,6 @@ pub fn part<'a>(signature: u32, board: &'a [u8], built_in: &'a [u8]) -> &'a [u8]
     match choose(signature, board, built_in) {
         Ok(Source::Board) => le::head(board, length_of(board)),
         Ok(Source::BuiltIn) => le::head(built_in, length_of(built_in)),
-        Err(_) => &[],
+        Err(_) => le::head(board, 0),
     }
 }

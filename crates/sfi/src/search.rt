@@ -23,7 +23,8 @@ fn is_hit(memory: &[u8], at: usize) -> bool
         && Table::check(table).is_ok()
 }
 
-// Where SYST starts in the memory, the lowest such place, or 46 or 47.
+// Where SYST starts in the memory, the lowest such place, or 46 or 47. By `step_by` over the bytes, a place that is passed
+// over takes 12 instructions instead of 9.
 #[tactic(auto, unfolding(crate::specs::Search::located))]
 pub fn find_syst(memory: &[u8]) -> Result<usize, Reason>
     ensures { result ≡ located memory.now }
@@ -31,8 +32,8 @@ pub fn find_syst(memory: &[u8]) -> Result<usize, Reason>
     if memory.len() != MEMORY_SIZE {
         return Err(Reason::BadMemory);
     }
-    (0..MEMORY_SIZE)
-        .step_by(STEP)
+    (0..MEMORY_SIZE / STEP)
+        .map(|k| STEP * k)
         .find(|at| is_hit(memory, *at))
         .ok_or(Reason::NoSyst)
 }

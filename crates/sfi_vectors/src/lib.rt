@@ -134,32 +134,50 @@ fn run_entries(rt: &impl Print, cpus: &[u8]) -> io::Result<()> {
     entry(rt, "entry 1, MMAP of 96 bytes", &laid(Kind::MMAP, 96, 1), 1)
 }
 
-// The search in memory of zeros, but for such a SYST at each of these places.
+// Puts bytes at each of the places. A place past the memory's end changes nothing.
+fn put(bytes: &[u8], places: &[usize], memory: &mut [u8]) {
+    for at in places {
+        if let Some(place) = memory.get_mut(*at..) {
+            le::copy(bytes, place);
+        }
+    }
+}
+
+// The search in memory of zeros, but for such a SYST at each of these places. It is lent as zeros, and left so.
 fn find_laid(
     rt: &impl Print,
     what: &str,
     length: u32,
     revision: u8,
     places: &[usize],
+    memory: &mut [u8],
 ) -> io::Result<()> {
-    let table = laid(Kind::SYST, length, revision);
-    let mut memory = [0; MEMORY_SIZE];
-    for at in places {
-        if let Some(place) = memory.get_mut(*at..) {
-            le::copy(&table, place);
-        }
-    }
-    find_syst(rt, what, &memory)
+    put(&laid(Kind::SYST, length, revision), places, memory);
+    let said = find_syst(rt, what, memory);
+    put(&[0; 96], places, memory);
+    said
 }
 
 // A SYST that ends with its page, also with a second one behind it, one that runs past it, and others of several revisions.
+fn search(rt: &impl Print, memory: &mut [u8]) -> io::Result<()> {
+    find_laid(rt, "at 4064 with Length 32", 32, 1, &[SYST_AT], memory)?;
+    find_laid(
+        rt,
+        "at 4064 and at 8192",
+        32,
+        1,
+        &[SYST_AT, SECOND_AT],
+        memory,
+    )?;
+    find_laid(rt, "at 4064 with Length 40", 40, 1, &[SYST_AT], memory)?;
+    find_laid(rt, "at 4064 of Revision 0", 32, 0, &[SYST_AT], memory)?;
+    find_laid(rt, "at 4064 of Revision 2", 32, 2, &[SYST_AT], memory)?;
+    find_syst(rt, "131071 bytes", le::head(memory, 131071))
+}
+
+// One array, made once and lent: each more of them would stand on the stack.
 fn run_search(rt: &impl Print) -> io::Result<()> {
-    find_laid(rt, "at 4064 with Length 32", 32, 1, &[SYST_AT])?;
-    find_laid(rt, "at 4064 and at 8192", 32, 1, &[SYST_AT, SECOND_AT])?;
-    find_laid(rt, "at 4064 with Length 40", 40, 1, &[SYST_AT])?;
-    find_laid(rt, "at 4064 of Revision 0", 32, 0, &[SYST_AT])?;
-    find_laid(rt, "at 4064 of Revision 2", 32, 2, &[SYST_AT])?;
-    find_syst(rt, "131071 bytes", &[0; 131071])
+    search(rt, &mut [0; MEMORY_SIZE])
 }
 
 fn run_choice(rt: &impl Print, cpus: &[u8]) -> io::Result<()> {
@@ -193,7 +211,8 @@ fn run_all(rt: &impl Print) -> io::Result<()> {
     run_choice(rt, cpus)
 }
 
-// A write that fails is passed over, and the next is tried.
+// A write that fails is passed over, and the next is tried. Never inlined, so that the parts' frames don't add up in `main`'s.
+#[inline(never)]
 pub fn run(rt: &impl Print) {
     let _ = run_all(&Lossy(rt));
 }

@@ -53,7 +53,8 @@ fn run_all(rt: &impl Print) -> io::Result<()> {
     write(rt, "257 bytes", &[0; 257], &mut slice)
 }
 
-// A write that fails is passed over, and the next is tried.
+// A write that fails is passed over, and the next is tried. Never inlined, as the other parts.
+#[inline(never)]
 pub(crate) fn run(rt: &impl Print) {
     let _ = run_all(&Lossy(rt));
 }

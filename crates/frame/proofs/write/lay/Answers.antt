@@ -1,20 +1,16 @@
--- The header lands at the output's start, then the piece in the part behind it.
-use Rattle.std.proofs.Common.{◌≡◌, ℕ, ◌+◌, ◌-◌, List, ◌++◌, length, drop, sym, ap₂, ◌∙◌, append_assoc, arith, take_at, drop_at, drop-drop}
-use borrow.Rule.Slice.PartMut.{put_mid}
+-- The header lands at the output's start, then the piece is copied to the part behind it.
+use Rattle.std.proofs.Common.{◌≡◌, ℕ, List, ◌++◌, drop, sym, ap, ◌∙◌, arith}
+use Rattle.le.specs.Copy.{copied}
+use Rattle.le.proofs.Parts.{copied_whole, copied_behind}
 use Rattle.frame.specs.Layout.{header_size, header_bytes}
 use Rattle.frame.proofs.Writing.{length_header}
 use Rattle.frame.proofs.write.lay.Goals as goal
 
-laid : (head piece out : List ℕ) → length head ≡ header_size
-    → put_mid header_size (header_size + length piece - header_size) (head ++ drop header_size out) piece ≡ head ++ piece ++ drop (header_size + length piece) out
-laid head piece out len =
-    let behind = drop header_size out in
-    let size : header_size + length piece - header_size ≡ length piece = omega arith in
-    rw (size, take_at head behind header_size len, drop_at head behind header_size len, drop-drop (length piece) header_size out)
-    (sym (append_assoc head piece (drop (header_size + length piece) out)))
-
 pub returns-clause-out_after : goal.returns-clause-out_after
 returns-clause-out_after c =
-    let head_is = c.copy_from_slice.ensures.after ∙ c.bytes.ensures in
-    ap₂ (λ (head piece : List ℕ). put_mid header_size (header_size + length c.args.piece.now - header_size) (head ++ drop header_size c.args.out.now) piece) head_is c.copy_from_slice-2.ensures.after
-    ∙ laid (header_bytes c.args.header) c.args.piece.now c.args.out.now (length_header c.args.header)
+    let header = header_bytes c.args.header in
+    let out = c.args.out.now in
+    let long = length_header c.args.header in
+    let landed : header ++ drop header_size out ≡ copied header out = ap (λ (n : ℕ). header ++ drop n out) (sym long) ∙ sym (copied_whole header out (omega (arith, long, c.if-out-length.false))) in
+    let head_landed = ap (λ (l : List ℕ). l ++ drop header_size out) (c.copy_from_slice.ensures.after ∙ c.bytes.ensures) ∙ landed in
+    copied_behind header c.args.piece.now out _ _ header_size long c.if-out-length.false head_landed c.copy.ensures

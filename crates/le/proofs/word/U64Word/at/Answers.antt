@@ -3,5 +3,5 @@ use Rattle.std.proofs.Common.{arith}
 use Rattle.le.proofs.Words.{word_places}
 use Rattle.le.proofs.word.U64Word.at.Goals as goal
 
-pub returns-then-rest-ge8 : goal.returns-then-rest-ge8
-returns-then-rest-ge8 c = rw (← c.tail-rest.ensures) (omega (arith, word_places 8 c.tail-rest.result.now))
+pub returns-then-here-ge8 : goal.returns-then-here-ge8
+returns-then-here-ge8 c = rw (← c.tail-here.ensures) (omega (arith, word_places 8 c.tail-here.result.now))
