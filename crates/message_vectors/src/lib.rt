@@ -213,7 +213,7 @@ fn run_all(rt: &impl Print) -> io::Result<()> {
     Receiver::new(State::INCONSISTENT).receive(rt, "index 0, from next 0", FIRST)
 }
 
-// A write that fails is passed over, and the next is tried. Never inlined, so that the parts' frames don't add up in `main`'s.
+// A write that fails is passed over, and the next is tried. Never inlined, so that the parts don't add up on `main`'s stack.
 #[inline(never)]
 pub fn run(rt: &impl Print) {
     let _ = run_all(&Lossy(rt));
